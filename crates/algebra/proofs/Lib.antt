@@ -1,0 +1,7 @@
+pub mod Bytes
+pub mod Xor
+pub mod Sums
+pub mod Terms
+pub mod Value
+pub mod Inside
+pub mod Coefficients

@@ -1,0 +1,62 @@
+-- `within_outputs` meets its contract: the OR of the bytes passed, with the bytes that are left, tells what all the bytes tell.
+use borrow.Author.Needs.{needs}
+use mathlib.Core.Path.{_≡_, ap, _∙_}
+use Prim.Native.Nat.{ℕ, _-_, _^_, _≤_, _<_}
+use lib.Bits.{or-lt}
+use lib.Dec.{ltb}
+use lib.ListN.{length}
+use Rattle.algebra.proofs.transform.Steps.{one-shifted}
+use Rattle.algebra.proofs.calls.Judging.{Seen, seen-none, seen-more, seen-all}
+use native.Mathlib.Omega.{arith}
+use Rattle.algebra.proofs.calls.within_outputs.Statement.{statement}
+use Rattle.algebra.proofs.calls.within_outputs.Tie as tie
+
+abbrev Inv-loop : tie.InvT-loop
+Inv-loop m bytes seen₀ q₀ seen q = (q ≤ length bytes) × (seen < 2 ^ 8) × Seen m bytes q seen
+
+abbrev μ-loop : tie.MeasureT-loop
+μ-loop m bytes seen₀ q₀ seen q = length bytes - q
+
+loop-holds : tie.Need-loop-holds Inv-loop μ-loop
+loop-holds c = (omega arith, omega arith, seen-none _ _)
+
+shared-slice-read-seen : tie.Need-shared-slice-read-seen Inv-loop μ-loop
+shared-slice-read-seen c = search needs
+
+add-q : tie.Need-add-q Inv-loop μ-loop
+add-q c = search needs
+
+loop-less : tie.Need-loop-less Inv-loop μ-loop
+loop-less c = search needs
+
+loop-again : tie.Need-loop-again Inv-loop μ-loop
+loop-again c =
+    let l = c .before .before .loop in
+    (omega arith, or-lt 8 _ _ (l .inv .1) (omega (arith, c .shared-slice-known .given (l .q))), seen-more _ _ _ _ (c .before .loop-test .taken) (l .inv .2))
+
+shl-limit : tie.Need-shl-limit Inv-loop μ-loop
+shl-limit c = search needs
+
+cast-result : tie.Need-cast-result Inv-loop μ-loop
+cast-result c = omega (arith, c .before .loop .inv .1)
+
+returns : tie.Need-returns Inv-loop μ-loop
+returns c =
+    let l = c .before .loop in
+    let e : l .q ≡ length (c .before .before .args .bytes .now) = omega (arith, l .inv .0) in
+    ap (λ (x : ℕ). ltb (l .seen) x) (one-shifted (c .before .before .args .m) (omega (arith, c .before .before .pre))) ∙ seen-all _ _ _ _ e (l .inv .2)
+
+pub within-outputs-spec : {M : Type 1} → statement M
+within-outputs-spec =
+    tie.close
+    (tie.spec
+    Inv-loop
+    μ-loop
+    loop-holds
+    shared-slice-read-seen
+    add-q
+    loop-less
+    loop-again
+    shl-limit
+    cast-result
+    returns)

@@ -1,0 +1,49 @@
+-- `coefficients_into` meets its contract.
+use borrow.Author.Needs.{needs}
+use mathlib.Core.Path.{_≡_, refl, sym, ap, _∙_}
+use Prim.Native.Nat.{ℕ, _%_, _^_}
+use lib.ListN.{length}
+use Rattle.algebra.specs.Transform.{coefficientBytes}
+use Rattle.algebra.proofs.Bytes.{length-tabulate}
+use Rattle.algebra.proofs.transform.Filling.{Fitting, fits-true, move-room, coefficients-filled}
+use native.Mathlib.Omega.{arith}
+use Rattle.algebra.proofs.transform.coefficients_into.Statement.{statement}
+use Rattle.algebra.proofs.transform.coefficients_into.Tie as tie
+
+fitting : (c : tie.Then1) → Fitting (c .before .before .before .before .args .n) (c .before .before .before .before .args .w) (length (c .before .before .before .before .args .tables .now)) (length (c .before .before .before .before .args .coefficients .now))
+fitting c = fits-true _ _ _ _ (sym (c .before .lengths-fit .ensures) ∙ c .if1 .taken)
+
+lengths-fit-requires : tie.Need-lengths-fit-requires
+lengths-fit-requires c κs = search needs
+
+move-points-requires : tie.Need-move-points-requires
+move-points-requires c κs = λ q h. let f = fitting (c .before) in omega (arith, f .same, move-room _ _ _ (f .polarity) (f .whole) q h)
+
+join-inside-requires : tie.Need-join-inside-requires
+join-inside-requires c κs =
+    let f = fitting (c .before .before .before .before .before) in
+    let e = ap length (c .before .before .before .move-points .ensures) ∙ length-tabulate _ _ in
+    (f .inputs, ap (λ (x : ℕ). x % 2 ^ c .before .before .before .before .before .before .before .before .before .args .n) e ∙ f .whole)
+
+same-length : tie.Need-same-length
+same-length c = search needs
+
+returns : tie.Need-returns
+returns c =
+    let t = c .before .before .before .before .before .before .before .before in
+    coefficients-filled _ _ _ _ _ _ (sym (t .before .lengths-fit .ensures) ∙ t .if1 .taken) (c .before .before .before .before .before .before .move-points .ensures) (c .before .before .join-inside .ensures)
+
+returns-2 : tie.Need-returns-2
+unfolding coefficientBytes
+returns-2 c = rw (sym (c .before .lengths-fit .ensures) ∙ c .if1 .left)
+
+pub coefficients-into-spec : {M : Type 1} → statement M
+coefficients-into-spec =
+    tie.close
+    (tie.spec
+    lengths-fit-requires
+    move-points-requires
+    join-inside-requires
+    same-length
+    returns
+    returns-2)

@@ -1,0 +1,6 @@
+pub mod Sums
+pub mod Terms
+pub mod Coefficients
+pub mod Bytes
+pub mod Transform
+pub mod Calls

@@ -1,0 +1,83 @@
+// The calls on n, m, w and two lent buffers. Each judges its arguments in document 01's order, refusals 2, 3, 7, 8 and 9, and under a
+// refusal changes no lent byte.
+ghost use mathlib.Core.Path.{_≡_};
+ghost use Prim.Native.Nat.{_^_, _≤_};
+ghost use Rattle.algebra.specs.Calls.{allBelow, refusal, Forward, Backward};
+use crate::transform::coefficients_into;
+use crate::transform::values_into;
+
+// The answer of a transform call: carried out, or declined with document 01's number and line.
+pub enum Transformed {
+    Done,
+    Refused { number: usize, line: usize },
+}
+
+// Whether no byte has a bit at m or above, for m up to 8.
+fn within_outputs(m: usize, bytes: &[u8]) -> bool
+    requires { ⌜ m ≤ 8 ⌝ }
+    ensures { λ r. ⌜ r ≡ allBelow (2 ^ m) (now (bytes .entry)) ⌝ }
+{
+    let mut seen: u8 = 0;
+    let mut q = 0;
+    while q < bytes.len() {
+        seen = seen | bytes[q];
+        q += 1;
+    }
+    let limit: usize = 1 << m;
+    (seen as usize) < limit
+}
+
+// The number of the first refusal that applies, and 0 where none does; `lent` is the length of the buffer to fill.
+fn first_refusal(n: usize, m: usize, w: usize, given: &[u8], lent: usize) -> usize
+    ensures { λ r. ⌜ r ≡ refusal n m w (now (given .entry)) lent ⌝ }
+{
+    if n < 1 {
+        return 2;
+    }
+    if 8 < n {
+        return 2;
+    }
+    if m < 1 {
+        return 3;
+    }
+    if 8 < m {
+        return 3;
+    }
+    let size: usize = 1 << n;
+    if size <= w {
+        return 7;
+    }
+    if given.len() != size {
+        return 8;
+    }
+    if lent != size {
+        return 8;
+    }
+    if within_outputs(m, given) { 0 } else { 9 }
+}
+
+// Takes n, m, w and a table of 2^n bytes, and fills `coefficients`, 2^n bytes, so that their value at every point is the table's byte.
+// Refuses n or m outside 1 to 8, w of 2^n or more, another length of either buffer, and a byte with a bit at m or above.
+pub fn forward(n: usize, m: usize, w: usize, table: &[u8], coefficients: &mut [u8]) -> Transformed
+    ensures { λ r. ⌜ Forward n m w (now (table .entry)) (now (coefficients .entry)) (now (coefficients .exit)) r ⌝ }
+{
+    let number = first_refusal(n, m, w, table, coefficients.len());
+    if number != 0 {
+        return Transformed::Refused { number, line: 0 };
+    }
+    coefficients_into(n, w, table, coefficients);
+    Transformed::Done
+}
+
+// Takes n, m, w and 2^n coefficients, and fills `table`, 2^n bytes, with their value at every point.
+// Refuses as `forward` does.
+pub fn backward(n: usize, m: usize, w: usize, coefficients: &[u8], table: &mut [u8]) -> Transformed
+    ensures { λ r. ⌜ Backward n m w (now (coefficients .entry)) (now (table .entry)) (now (table .exit)) r ⌝ }
+{
+    let number = first_refusal(n, m, w, coefficients, table.len());
+    if number != 0 {
+        return Transformed::Refused { number, line: 0 };
+    }
+    values_into(n, w, coefficients, table);
+    Transformed::Done
+}
