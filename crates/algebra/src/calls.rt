@@ -1,7 +1,7 @@
 // The calls on n, m, w and two lent buffers. Each judges its arguments in document 01's order, refusals 2, 3, 7, 8 and 9, and under a
 // refusal changes no lent byte.
 ghost use mathlib.Core.Path.{_≡_};
-ghost use Prim.Native.Nat.{_^_, _≤_};
+ghost use Prim.Native.Nat.{_^_};
 ghost use Rattle.algebra.specs.Calls.{allBelow, refusal, Forward, Backward};
 use crate::transform::coefficients_into;
 use crate::transform::values_into;
@@ -12,9 +12,8 @@ pub enum Transformed {
     Refused { number: usize, line: usize },
 }
 
-// Whether no byte has a bit at m or above, for m up to 8.
-fn within_outputs(m: usize, bytes: &[u8]) -> bool
-    requires { ⌜ m ≤ 8 ⌝ }
+// Whether no byte has a bit at m or above.
+pub fn within_outputs(m: usize, bytes: &[u8]) -> bool
     ensures { λ r. ⌜ r ≡ allBelow (2 ^ m) (now (bytes .entry)) ⌝ }
 {
     let mut seen: u8 = 0;
@@ -22,6 +21,9 @@ fn within_outputs(m: usize, bytes: &[u8]) -> bool
     while q < bytes.len() {
         seen = seen | bytes[q];
         q += 1;
+    }
+    if 8 <= m {
+        return true;
     }
     let limit: usize = 1 << m;
     (seen as usize) < limit

@@ -74,7 +74,7 @@ pub record Accepted (n m w : ℕ) (given : List ℕ) (lent : ℕ) : Type 0 where
   pub clean : T (allBelow (2 ^ m) given)
 
 -- a test that fails gives a number other than 0
-passed : (a : Bool) (x rest : ℕ) → unless a (suc x) rest ≡ 0 → T a × (rest ≡ 0)
+pub passed : (a : Bool) (x rest : ℕ) → unless a (suc x) rest ≡ 0 → T a × (rest ≡ 0)
 passed true x rest e = (tt, e)
 passed false x rest e = absurd (omega arith)
 

@@ -1,10 +1,12 @@
 -- `within_outputs` meets its contract: the OR of the bytes passed, with the bytes that are left, tells what all the bytes tell.
 use borrow.Author.Needs.{needs}
-use mathlib.Core.Path.{_≡_, ap, _∙_}
+use mathlib.Core.Path.{_≡_, ap, sym, _∙_}
 use Prim.Native.Nat.{ℕ, _-_, _^_, _≤_, _<_}
 use lib.Bits.{or-lt}
 use lib.Dec.{ltb}
 use lib.ListN.{length}
+use lib.Pow.{pow-mono}
+use borrow.Author.Tests.{lt-ltb}
 use Rattle.algebra.proofs.transform.Steps.{one-shifted}
 use Rattle.algebra.proofs.calls.Judging.{Seen, seen-none, seen-more, seen-all}
 use native.Mathlib.Omega.{arith}
@@ -34,17 +36,24 @@ loop-again c =
     let l = c .before .before .loop in
     (omega arith, or-lt 8 _ _ (l .inv .1) (omega (arith, c .shared-slice-known .given (l .q))), seen-more _ _ _ _ (c .before .loop-test .taken) (l .inv .2))
 
-shl-limit : tie.Need-shl-limit Inv-loop μ-loop
-shl-limit c = search needs
-
-cast-result : tie.Need-cast-result Inv-loop μ-loop
-cast-result c = omega (arith, c .before .loop .inv .1)
-
 returns : tie.Need-returns Inv-loop μ-loop
 returns c =
-    let l = c .before .loop in
-    let e : l .q ≡ length (c .before .before .args .bytes .now) = omega (arith, l .inv .0) in
-    ap (λ (x : ℕ). ltb (l .seen) x) (one-shifted (c .before .before .args .m) (omega (arith, c .before .before .pre))) ∙ seen-all _ _ _ _ e (l .inv .2)
+    let l = c .before .before .loop in
+    let e : l .q ≡ length (c .before .before .before .args .bytes .now) = omega (arith, c .before .loop-test .left, l .inv .0) in
+    let h : l .seen < 2 ^ c .before .before .before .args .m = omega (arith, l .inv .1, pow-mono (c .if1 .taken)) in
+    sym (lt-ltb _ _ h) ∙ seen-all _ _ _ _ e (l .inv .2)
+
+shl-limit : tie.Need-shl-limit Inv-loop μ-loop
+shl-limit c = omega (arith, c .if1 .left)
+
+cast-result : tie.Need-cast-result Inv-loop μ-loop
+cast-result c = omega (arith, c .before .before .loop .inv .1)
+
+returns-2 : tie.Need-returns-2 Inv-loop μ-loop
+returns-2 c =
+    let l = c .before .before .loop in
+    let e : l .q ≡ length (c .before .before .before .args .bytes .now) = omega (arith, c .before .loop-test .left, l .inv .0) in
+    ap (λ (x : ℕ). ltb (l .seen) x) (one-shifted (c .before .before .before .args .m) (omega (arith, c .if1 .left))) ∙ seen-all _ _ _ _ e (l .inv .2)
 
 pub within-outputs-spec : {M : Type 1} → statement M
 within-outputs-spec =
@@ -57,6 +66,7 @@ within-outputs-spec =
     add-q
     loop-less
     loop-again
+    returns
     shl-limit
     cast-result
-    returns)
+    returns-2)

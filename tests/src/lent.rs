@@ -1,0 +1,81 @@
+//! Buffers lent to a call, with a margin on both sides that no call may write.
+
+use std::fmt::Debug;
+use std::ops::Range;
+
+const MARGIN: usize = 64;
+
+/// A lent buffer and what it held when it was made.
+pub struct Lent<T> {
+    held: Vec<T>,
+    before: Vec<T>,
+}
+
+impl<T: Copy + PartialEq + Debug + From<u8>> Lent<T> {
+    /// A buffer that holds `inside`, between margins whose bytes differ and are never 0.
+    pub fn new(inside: &[T]) -> Self {
+        let canary = |place: usize| T::from(128 + (place * 37 % 128) as u8);
+        let margin: Vec<T> = (0..MARGIN).map(canary).collect();
+        let held = [&margin, inside, &margin].concat();
+        Lent { before: held.clone(), held }
+    }
+
+    fn inner(&self) -> Range<usize> {
+        MARGIN..self.held.len() - MARGIN
+    }
+
+    /// The buffer itself.
+    pub fn inside(&self) -> &[T] {
+        &self.held[self.inner()]
+    }
+
+    /// The buffer itself, for a call to fill.
+    pub fn inside_mut(&mut self) -> &mut [T] {
+        let inner = self.inner();
+        &mut self.held[inner]
+    }
+
+    /// What the buffer held when it was made.
+    pub fn before(&self) -> &[T] {
+        &self.before[self.inner()]
+    }
+
+    /// Fails when something outside the buffer was written.
+    #[track_caller]
+    pub fn check_margins(&self) {
+        let end = self.inner().end;
+        assert_eq!(self.held[..MARGIN], self.before[..MARGIN], "written before the buffer");
+        assert_eq!(self.held[end..], self.before[end..], "written past the buffer");
+    }
+
+    /// Fails when anything was written.
+    #[track_caller]
+    pub fn check_untouched(&self) {
+        self.check_margins();
+        assert_eq!(self.inside(), self.before(), "a buffer was written that should be kept");
+    }
+}
+
+#[cfg(test)]
+mod tests {
+    use super::Lent;
+    use std::panic::catch_unwind;
+
+    fn caught(written: isize, check: fn(&Lent<u8>)) -> bool {
+        catch_unwind(|| {
+            let mut lent = Lent::new(&[1u8, 2, 3]);
+            let place = super::MARGIN.wrapping_add_signed(written);
+            lent.held[place] = 0;
+            check(&lent);
+        })
+        .is_err()
+    }
+
+    #[test]
+    fn a_stray_write_is_seen() {
+        assert!(caught(-1, Lent::check_margins));
+        assert!(caught(3, Lent::check_margins));
+        assert!(!caught(1, Lent::check_margins));
+        assert!(caught(1, Lent::check_untouched));
+    }
+}

@@ -1,0 +1,7 @@
+//! Cases for the expansion calls. Document 01's sentences are evaluated here input by input and point
+//! by point, and every answer of a call is compared with that evaluation.
+
+pub mod calls;
+pub mod evaluator;
+pub mod lent;
+pub mod seeded;
