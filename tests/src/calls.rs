@@ -22,6 +22,32 @@ unsafe extern "C" {
         table_len: usize,
         answer: *mut u64,
     );
+    fn mipaldoz_minimise(
+        n: usize,
+        m: usize,
+        k: usize,
+        table: *const u8,
+        table_len: usize,
+        coefficients: *mut u8,
+        coefficients_len: usize,
+        blocks: *mut u8,
+        blocks_len: usize,
+        answer: *mut u64,
+    );
+    fn mipaldoz_read(
+        text: *const u8,
+        text_len: usize,
+        table: *mut u8,
+        table_len: usize,
+        answer: *mut u64,
+    );
+    fn mipaldoz_compile(
+        text: *const u8,
+        text_len: usize,
+        output: *mut u8,
+        output_len: usize,
+        answer: *mut u64,
+    );
 }
 
 /// The numbers of a transform's answer: number, line.
@@ -75,4 +101,57 @@ pub fn backward(
             answer.as_mut_ptr(),
         );
     }
+}
+
+/// The numbers of the minimising call's answer: number, line, M, i, products, literals.
+pub type MinimiseAnswer = [u64; 6];
+
+/// The minimising call: fills the coefficients and the block polarities of the least expansion.
+#[inline]
+pub fn minimise(
+    n: usize,
+    m: usize,
+    k: usize,
+    table: &[u8],
+    coefficients: &mut [u8],
+    blocks: &mut [u8],
+    answer: &mut MinimiseAnswer,
+) {
+    // SAFETY: each pointer goes with the length of its own slice, and the answer has its six places.
+    unsafe {
+        mipaldoz_minimise(
+            n,
+            m,
+            k,
+            table.as_ptr(),
+            table.len(),
+            coefficients.as_mut_ptr(),
+            coefficients.len(),
+            blocks.as_mut_ptr(),
+            blocks.len(),
+            answer.as_mut_ptr(),
+        );
+    }
+}
+
+/// The numbers of the reading call's answer: number, line, n, m, k.
+pub type ReadAnswer = [u64; 5];
+
+/// The reading call: fills a table of 256 bytes from a table text.
+#[inline]
+pub fn read(text: &[u8], table: &mut [u8], answer: &mut ReadAnswer) {
+    let lent = (table.as_mut_ptr(), table.len());
+    // SAFETY: each pointer goes with the length of its own slice, and the answer has its five places.
+    unsafe { mipaldoz_read(text.as_ptr(), text.len(), lent.0, lent.1, answer.as_mut_ptr()) }
+}
+
+/// The numbers of the text call's answer: number, line, length.
+pub type CompileAnswer = [u64; 3];
+
+/// The text call: writes the listing of a table text into the output buffer.
+#[inline]
+pub fn compile(text: &[u8], output: &mut [u8], answer: &mut CompileAnswer) {
+    let lent = (output.as_mut_ptr(), output.len());
+    // SAFETY: each pointer goes with the length of its own slice, and the answer has its three places.
+    unsafe { mipaldoz_compile(text.as_ptr(), text.len(), lent.0, lent.1, answer.as_mut_ptr()) }
 }

@@ -25,24 +25,29 @@ pub fn places(n: usize) -> usize {
     2usize.pow(n as u32)
 }
 
-/// The value of xi at point p: bit i-1 of p.
+/// The bit of a point, a term or a polarity that goes with xi: bit i-1.
+fn bit(x: usize, i: usize) -> bool {
+    (x >> (i - 1)) % 2 == 1
+}
+
+/// The value of xi at point p.
 pub fn input_value(p: usize, i: usize) -> bool {
-    (p >> (i - 1)) % 2 == 1
+    bit(p, i)
 }
 
 /// Whether term t holds a literal of xi.
 pub fn holds(t: usize, i: usize) -> bool {
-    (t >> (i - 1)) % 2 == 1
+    bit(t, i)
 }
 
 /// Whether the literal of xi is complemented in polarity w.
 pub fn complemented(w: usize, i: usize) -> bool {
-    (w >> (i - 1)) % 2 == 1
+    bit(w, i)
 }
 
 /// The number whose bit i-1 is `chosen(i)`, for each of n inputs.
 pub fn number_of(n: usize, chosen: impl Fn(usize) -> bool) -> usize {
-    inputs(n).filter(|&i| chosen(i)).map(|i| 2usize.pow(i as u32 - 1)).sum()
+    inputs(n).filter(|&i| chosen(i)).map(|i| 1 << (i - 1)).sum()
 }
 
 /// Whether the literal of xi under polarity w is true at p.
@@ -72,17 +77,19 @@ pub fn forward(n: usize, w: usize, table: &[u8]) -> Vec<u8> {
     let mut c = vec![0; places(n)];
     for t in 0..places(n) {
         let point = number_of(n, |i| holds(t, i) != complemented(w, i));
-        c[t] = smaller_terms(t).fold(table[point], |rest, s| rest ^ c[s]);
+        c[t] = table[point];
+        let mut part = t;
+        while let Some(smaller) = smaller_term(t, part) {
+            c[t] ^= c[smaller];
+            part = smaller;
+        }
     }
     c
 }
 
-/// The terms other than t whose literals are all in t.
-fn smaller_terms(t: usize) -> impl Iterator<Item = usize> {
-    (0..t).rev().scan(t, move |s, _| {
-        *s = s.checked_sub(1)? & t;
-        Some(*s)
-    })
+/// The next smaller number than `part` whose literals are all in t.
+fn smaller_term(t: usize, part: usize) -> Option<usize> {
+    Some(part.checked_sub(1)? & t)
 }
 
 /// Literals of a term: the bits set in it.
@@ -136,6 +143,7 @@ pub fn judge_transform(
 #[cfg(test)]
 mod tests {
     use super::*;
+    use std::iter::successors;
 
     fn terms_of(n: usize, w: usize, table: &[u8]) -> Vec<usize> {
         let c = forward(n, w, table);
@@ -162,10 +170,11 @@ mod tests {
     }
 
     #[test]
-    fn smaller_terms_are_the_proper_parts() {
+    fn smaller_terms_hold_some_of_the_literals() {
         for t in 0..64 {
-            let mut found: Vec<usize> = smaller_terms(t).collect();
-            found.sort();
+            let mut found: Vec<usize> =
+                successors(smaller_term(t, t), |&part| smaller_term(t, part)).collect();
+            found.reverse();
             let wanted: Vec<usize> =
                 (0..t).filter(|&s| inputs(6).all(|i| !holds(s, i) || holds(t, i))).collect();
             assert_eq!(found, wanted);

@@ -56,6 +56,15 @@ impl<T: Copy + PartialEq + Debug + From<u8>> Lent<T> {
     }
 }
 
+/// The answer of a call that is lent N places for it.
+#[track_caller]
+pub fn answer<const N: usize>(call: impl FnOnce(&mut [u64; N])) -> [u64; N] {
+    let mut places = Lent::new(&[u64::MAX - 1; N]);
+    call(places.inside_mut().try_into().expect("there are N places"));
+    places.check_margins();
+    places.inside().try_into().expect("there are N places")
+}
+
 #[cfg(test)]
 mod tests {
     use super::Lent;

@@ -1,7 +1,13 @@
 //! Cases for the expansion calls. Document 01's sentences are evaluated here input by input and point
 //! by point, and every answer of a call is compared with that evaluation.
 
+pub mod c_search;
 pub mod calls;
+pub mod class;
 pub mod evaluator;
 pub mod lent;
+pub mod marked;
+pub mod program;
 pub mod seeded;
+pub mod text;
+pub mod timing;

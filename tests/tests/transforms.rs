@@ -2,8 +2,9 @@
 
 use outside_cases::calls::{self, TransformAnswer};
 use outside_cases::evaluator::{self, judge_transform, places};
-use outside_cases::lent::Lent;
-use outside_cases::seeded::{Seeded, any_table, output_bits, random_table};
+use outside_cases::lent::{Lent, answer};
+use outside_cases::seeded::tables::{any_table, every_table, output_bits, random_table, table_of};
+use outside_cases::seeded::{OUT_OF_RANGE, Seeded};
 
 type Call = fn(usize, usize, usize, &[u8], &mut [u8], &mut TransformAnswer);
 
@@ -27,16 +28,13 @@ struct Numbers {
 
 /// Makes the call with margins around every buffer. Gives the answer and the filled buffer.
 fn run(call: Call, numbers: Numbers, given: &[u8], lent: &[u8]) -> (TransformAnswer, Lent<u8>) {
+    let Numbers { n, m, w } = numbers;
     let given = Lent::new(given);
     let mut filled = Lent::new(lent);
-    let mut answer = Lent::new(&[u64::MAX - 1; 2]);
-    let Numbers { n, m, w } = numbers;
-    let places = answer.inside_mut().try_into().expect("two places");
-    call(n, m, w, given.inside(), filled.inside_mut(), places);
+    let answer = answer(|places| call(n, m, w, given.inside(), filled.inside_mut(), places));
     given.check_untouched();
     filled.check_margins();
-    answer.check_margins();
-    (answer.inside().try_into().expect("two places"), filled)
+    (answer, filled)
 }
 
 /// Compares one call with the judgement and the meaning.
@@ -55,11 +53,28 @@ fn check(direction: &Direction, numbers: Numbers, given: &[u8], lent: &[u8]) {
     }
 }
 
-/// Every table of n inputs and m outputs.
-fn every_table(n: usize, m: usize) -> impl Iterator<Item = Vec<u8>> {
-    let byte = move |number: usize, p: usize| (number >> (p * m)) as u8 & output_bits(m);
-    (0..1usize << (m * places(n)))
-        .map(move |number| (0..places(n)).map(|p| byte(number, p)).collect())
+/// OR of two inputs: the terms under each polarity.
+#[test]
+fn marked_or() {
+    for (w, terms) in [(0, vec![1, 2, 3]), (1, vec![0, 1, 3]), (2, vec![0, 2, 3]), (3, vec![0, 3])]
+    {
+        let (answer, c) = run(FORWARD.call, Numbers { n: 2, m: 1, w }, &[0, 1, 1, 1], &[255; 4]);
+        assert_eq!(answer, [0, 0]);
+        let c = c.inside();
+        assert_eq!((0..4).filter(|&t| c[t] != 0).collect::<Vec<usize>>(), terms, "w = {w}");
+    }
+}
+
+/// Marked entries of the block table: three inputs, one output, a function and its coefficients as bits.
+#[test]
+fn marked_block_entries() {
+    for (g, phi, entry) in [(150, 0, 22), (150, 7, 23), (136, 0, 8), (12, 5, 64)] {
+        let table = table_of(3, 1, |p| g >> p);
+        let (answer, c) = run(FORWARD.call, Numbers { n: 3, m: 1, w: phi }, &table, &[255; 8]);
+        assert_eq!(answer, [0, 0]);
+        let bits = c.inside().iter().enumerate().map(|(t, &c)| c << t);
+        assert_eq!(bits.sum::<u8>(), entry, "entry ({g}, {phi})");
+    }
 }
 
 #[test]
@@ -124,23 +139,6 @@ fn inverse() {
         }
     }
 }
-
-/// Numbers that are none of 1 to 8, among them some whose low bits are.
-const OUT_OF_RANGE: [usize; 13] = [
-    0,
-    9,
-    10,
-    63,
-    64,
-    66,
-    258,
-    1 << 16 | 2,
-    1 << 32 | 2,
-    1 << 63,
-    1 << 63 | 2,
-    usize::MAX - 253,
-    usize::MAX,
-];
 
 #[test]
 fn sizes_out_of_range() {

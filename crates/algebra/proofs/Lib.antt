@@ -1,4 +1,5 @@
 pub mod Bytes
+pub mod Shifts
 pub mod Xor
 pub mod Sums
 pub mod Terms

@@ -2,9 +2,7 @@
 use mathlib.Core.Path.{_≡_, ap, subst, _∙_}
 use mathlib.Core.List.{List}
 use Prim.Native.Nat.{ℕ}
-use Rattle.algebra.specs.declared.calls.Transformed.{Transformed}
-use Rattle.capi.specs.Answers.{numbers}
 
-pub answer-decided : (P : Transformed → Type 0) (returned decided : Transformed) (told : List ℕ)
+pub answer-decided : {A : Type 0} (numbers : A → List ℕ) (P : A → Type 0) (returned decided : A) (told : List ℕ)
     → returned ≡ decided → P returned → told ≡ numbers returned → P decided × (told ≡ numbers decided)
-answer-decided P returned decided told e p t = (subst P e p, t ∙ ap numbers e)
+answer-decided numbers P returned decided told e p t = (subst P e p, t ∙ ap numbers e)

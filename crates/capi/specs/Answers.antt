@@ -1,9 +1,15 @@
--- How an exported call tells its answer: two numbers, the refusal's number and its line.
+-- How an exported call tells its answer: the refusal's number and its line, and then the numbers that the call returns.
 use mathlib.Core.List.{List, [], _∷_}
 use Prim.Native.Nat.{ℕ}
+use lib.ListN.{length}
+use Rattle.algebra.specs.Bytes.{at}
 use Rattle.algebra.specs.Calls.{refusal, answered}
 use Rattle.algebra.specs.declared.calls.Transformed.{Transformed}
 use Rattle.algebra.specs.declared.calls.Transformed.the-variants.{Done, Refused}
+use Rattle.search.specs.Calls as minimising
+use Rattle.search.specs.Expansion.{answerExpansion}
+use Rattle.search.specs.declared.calls.Minimised.{Minimised}
+use Rattle.search.specs.declared.calls.Minimised.the-variants as minimised
 
 -- the answer that "Why a call declines" decides for n, m, w, the given bytes and the length of the buffer to fill
 abbrev pub decided : ℕ → ℕ → ℕ → List ℕ → ℕ → Transformed
@@ -13,3 +19,12 @@ decided n m w given lent = answered (refusal n m w given lent)
 unfoldable pub numbers : Transformed → List ℕ
 numbers Done = 0 ∷ 0 ∷ []
 numbers (Refused number line) = number ∷ line ∷ []
+
+-- the answer that is decided for n, m, k, the table and the lengths of the two buffers to fill
+abbrev pub decidedMinimum : ℕ → ℕ → ℕ → List ℕ → ℕ → ℕ → Minimised
+decidedMinimum n m k table coefficients blocks = minimising.answered (minimising.refusal n m k table coefficients blocks) (answerExpansion n k (at table))
+
+-- "returns M, i, products and literals", after the number and the line, all 0 under a refusal
+unfoldable pub minimumNumbers : Minimised → List ℕ
+minimumNumbers (minimised.Found M i products literals) = 0 ∷ 0 ∷ M ∷ i ∷ products ∷ literals ∷ []
+minimumNumbers (minimised.Refused number line) = number ∷ line ∷ 0 ∷ 0 ∷ 0 ∷ 0 ∷ []

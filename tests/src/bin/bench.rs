@@ -3,12 +3,10 @@
 
 use outside_cases::calls::{self, TransformAnswer};
 use outside_cases::seeded::Seeded;
+use outside_cases::timing::side_by_side;
 use std::hint::black_box;
-use std::time::Instant;
 
 const SIZE: usize = 256;
-const CALLS: u32 = 2000;
-const REPEATS: usize = 200;
 
 type Call = fn(usize, usize, usize, &[u8], &mut [u8], &mut TransformAnswer);
 
@@ -30,7 +28,7 @@ fn refusal(n: usize, m: usize, w: usize, table: &[u8], filled: usize) -> u64 {
     if usize::from(used) >> m != 0 { 9 } else { 0 }
 }
 
-/// Each step adds one cofactor of an input to the other; the polarity's bit says which is kept.
+/// One step for each input, in place; the polarity's bit says which cofactor is kept.
 fn butterfly(
     n: usize,
     m: usize,
@@ -46,35 +44,30 @@ fn butterfly(
     coefficients.copy_from_slice(table);
     for input in 0..n {
         let half = 1 << input;
-        let swapped = w >> input & 1 == 1;
+        let complemented = w >> input & 1 == 1;
         for pair in coefficients.chunks_exact_mut(2 * half) {
             let (low, high) = pair.split_at_mut(half);
-            step(low, high, swapped);
+            step(low, high, complemented);
         }
     }
 }
 
-/// The pair of cofactors becomes the one where the literal is false, and their exclusive OR.
-fn step(low: &mut [u8], high: &mut [u8], swapped: bool) {
+/// The two cofactors become the one where the literal is false, and their exclusive OR.
+fn step(low: &mut [u8], high: &mut [u8], complemented: bool) {
     for (low, high) in low.iter_mut().zip(high) {
         let sum = *low ^ *high;
-        *low = if swapped { *high } else { *low };
+        *low = if complemented { *high } else { *low };
         *high = sum;
     }
 }
 
-/// Nanoseconds for one call, the best of several repeats.
-fn nanoseconds(call: Call, w: usize, table: &[u8]) -> f64 {
+/// One call on the table. The compiler cannot know its arguments nor drop what it fills.
+fn work(call: Call, w: usize, table: &[u8]) -> impl FnMut() + use<'_> {
     let (mut coefficients, mut answer) = ([0; SIZE], [0; 2]);
-    let mut best = f64::INFINITY;
-    for _ in 0..REPEATS {
-        let start = Instant::now();
-        for _ in 0..CALLS {
-            call(8, 8, black_box(w), black_box(table), black_box(&mut coefficients), &mut answer);
-        }
-        best = best.min(start.elapsed().as_nanos() as f64 / f64::from(CALLS));
+    move || {
+        let (table, filled) = (black_box(table), black_box(&mut coefficients));
+        call(8, 8, black_box(w), table, filled, black_box(&mut answer));
     }
-    best
 }
 
 fn main() {
@@ -85,8 +78,8 @@ fn main() {
         calls::forward(8, 8, w, &table, &mut ours, &mut answer);
         butterfly(8, 8, w, &table, &mut theirs, &mut answer);
         assert_eq!(ours, theirs, "the two disagree at w = {w}");
-        let (call, rust) =
-            (nanoseconds(calls::forward, w, &table), nanoseconds(butterfly, w, &table));
-        println!("w = {w:3}\t{call:8.1}\t{rust:8.1}\t{:6.2}", call / rust);
+        let works = (work(calls::forward, w, &table), work(butterfly, w, &table));
+        let (call, rust) = side_by_side(200, 2000, works.0, works.1);
+        println!("w = {w:3}\t{:8.1}\t{:8.1}\t{:6.2}", call * 1e9, rust * 1e9, call / rust);
     }
 }

@@ -91,7 +91,7 @@ unfolding answered
 answered-refused zero h = absurd (h refl)
 answered-refused (suc x) h = refl
 
-kept : (x : ℕ) (filled before : List ℕ) → (x ≡ 0 → ⊥) → before ≡ unlessRefused x filled before
+pub kept : (x : ℕ) (filled before : List ℕ) → (x ≡ 0 → ⊥) → before ≡ unlessRefused x filled before
 kept zero filled before h = absurd (h refl)
 kept (suc x) filled before h = refl
 

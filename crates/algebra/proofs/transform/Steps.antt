@@ -9,14 +9,14 @@ use native.Mathlib.Decide.{ℕ-discrete, decLt}
 use native.Mathlib.Omega.{arith}
 use native.Mathlib.Numerals.{add-one}
 use lib.Arith.{digits-div, digits-mod, mod-mul}
-use lib.Pow.{pow-pos, high, shl-exact}
-use lib.Dec.{lit<}
+use lib.Pow.{pow-pos, high}
 use lib.ListN.{length, set, length-set}
 use lib.Bits.{bitXor, xor-comm}
 use Rattle.algebra.specs.Bytes.{at, tabulate}
 use Rattle.algebra.specs.Terms.{bit}
 use Rattle.algebra.specs.Coefficients.{xorInside}
 use Rattle.algebra.specs.Transform.{functionAt, joined, stepped, steps, RunsJoined, SteppedTo}
+use Rattle.algebra.proofs.Shifts.{one-shifted}
 use Rattle.algebra.proofs.Xor.{low-lt, bit-suc}
 use Rattle.algebra.proofs.Inside.{inside-none, inside-even, inside-odd, inside-ext, inside-xor, evens, odds}
 use Rattle.algebra.proofs.Bytes.{is-table, at-set, at-set-other}
@@ -97,9 +97,6 @@ multiple-room d a b ea eb h = go (decLt (a / d) (b / d))
     go : Dec (a / d < b / d) → a + d ≤ b
     go (yes l) = omega (arith, div-add-mod' a d, div-add-mod' b d, mul-le-mul-right d l, suc-mul (a / d) d)
     go (no l) = let k : b / d ≤ a / d = omega arith in absurd (omega (arith, div-add-mod' a d, div-add-mod' b d, mul-le-mul-right d k))
-
-pub one-shifted : (s : ℕ) → s < 64 → 1 * 2 ^ s % 2 ^ 64 ≡ 2 ^ s
-one-shifted s h = shl-exact 1 s 64 (lit< tt) (omega arith) ∙ omega arith
 
 -- the step for input s has been done at the places below base
 pub record StepAt (s size base : ℕ) (before after : List ℕ) : Type 0 where

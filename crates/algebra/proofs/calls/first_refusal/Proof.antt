@@ -7,7 +7,7 @@ use borrow.Author.Tests.{le-leb, lt-leb, lt-ltb, le-ltb, eq-eqb, ne-eqb}
 use lib.Dec.{leb, ltb, eqb}
 use lib.ListN.{length}
 use Rattle.algebra.specs.Calls.{refusal}
-use Rattle.algebra.proofs.transform.Steps.{one-shifted}
+use Rattle.algebra.proofs.Shifts.{one-shifted}
 use native.Mathlib.Omega.{arith}
 use Rattle.algebra.proofs.calls.first_refusal.Statement.{statement}
 use Rattle.algebra.proofs.calls.first_refusal.Tie as tie

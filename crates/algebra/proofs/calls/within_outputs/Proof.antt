@@ -7,7 +7,7 @@ use lib.Dec.{ltb}
 use lib.ListN.{length}
 use lib.Pow.{pow-mono}
 use borrow.Author.Tests.{lt-ltb}
-use Rattle.algebra.proofs.transform.Steps.{one-shifted}
+use Rattle.algebra.proofs.Shifts.{one-shifted}
 use Rattle.algebra.proofs.calls.Judging.{Seen, seen-none, seen-more, seen-all}
 use native.Mathlib.Omega.{arith}
 use Rattle.algebra.proofs.calls.within_outputs.Statement.{statement}

@@ -1,0 +1,25 @@
+-- `mipaldoz_backward` meets its contract.
+use borrow.Author.Needs.{needs}
+use Rattle.algebra.specs.Calls.{Backward}
+use Rattle.capi.specs.Answers.{numbers}
+use Rattle.capi.proofs.Answers.{answer-decided}
+use Rattle.capi.proofs.transforms.mipaldoz_backward.Statement.{statement}
+use Rattle.capi.proofs.transforms.mipaldoz_backward.Tie as tie
+
+backward-requires : tie.Need-backward-requires
+backward-requires c κs = search needs
+
+answer-numbers-requires : tie.Need-answer-numbers-requires
+answer-numbers-requires c κs = search needs
+
+same-length : tie.Need-same-length
+same-length c = search needs
+
+returns : tie.Need-returns
+returns c =
+    let called = c .before .before .before .backward in
+    answer-decided numbers (Backward _ _ _ _ _ _) (called .result) _ _ (called .ensures .answer) (called .ensures) (c .answer-numbers .ensures)
+
+pub mipaldoz-backward-spec : {M : Type 1} → statement M
+mipaldoz-backward-spec =
+    tie.close (tie.spec backward-requires answer-numbers-requires same-length returns)

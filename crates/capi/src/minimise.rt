@@ -1,0 +1,46 @@
+// The minimising call. The answer is six numbers: the refusal's number and its line, M, i, products and literals.
+ghost use mathlib.Core.Path.{_≡_};
+ghost use lib.ListN.{length};
+ghost use Rattle.search.specs.Calls.{Minimise};
+ghost use Rattle.capi.specs.Answers.{decidedMinimum, minimumNumbers};
+use search::calls::Minimised;
+
+// The numbers that stand for the minimising call's answer.
+fn minimum_numbers(r: Minimised) -> [u64; 6]
+    ensures { λ a. ⌜ a ≡ minimumNumbers r ⌝ }
+{
+    match r {
+        Minimised::Found {
+            mixed,
+            fixed,
+            products,
+            literals,
+        } => [
+            0,
+            0,
+            mixed as u64,
+            fixed as u64,
+            products as u64,
+            literals as u64,
+        ],
+        Minimised::Refused { number, line } => [number as u64, line as u64, 0, 0, 0, 0],
+    }
+}
+
+// Takes n, m, k and a table of 2^n bytes, and fills 2^n coefficients and 2^(n−k) block polarities, as `search::calls::minimise` does, which
+// judges and refuses.
+#[no_mangle]
+pub extern "C" fn mipaldoz_minimise(
+    n: usize,
+    m: usize,
+    k: usize,
+    table: &[u8],
+    coefficients: &mut [u8],
+    blocks: &mut [u8],
+    answer: &mut [u64; 6],
+)
+    ensures bytes { λ _. ⌜ Minimise n m k (now (table .entry)) (now (coefficients .entry)) (now (coefficients .exit)) (now (blocks .entry)) (now (blocks .exit)) (decidedMinimum n m k (now (table .entry)) (length (now (coefficients .entry))) (length (now (blocks .entry)))) ⌝ }
+    ensures answer { λ _. ⌜ now (answer .exit) ≡ minimumNumbers (decidedMinimum n m k (now (table .entry)) (length (now (coefficients .entry))) (length (now (blocks .entry)))) ⌝ }
+{
+    *answer = minimum_numbers(search::calls::minimise(n, m, k, table, coefficients, blocks));
+}

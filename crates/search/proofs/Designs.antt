@@ -1,0 +1,85 @@
+-- Every marked design of document 01 holds (`designs-hold`): one test over all rows, which the checker computes, and a law that turns it
+-- into the fact at each. Of the last design's rows it follows that a larger k can be dearer (`larger-k-dearer`).
+use mathlib.Core.Path.{_≡_, refl, ap₂}
+use mathlib.Core.Bool.{Bool, true, false, _&&_}
+use mathlib.Core.List.{List, [], _∷_, List·Memᴰ, List·Memᴰ·not-nil, List·Memᴰ·cases-cons, List·Memᴰ·head, List·Memᴰ·tail}
+use mathlib.Core.Logic.{_⊎_, inl, inr}
+use Prim.Native.Nat.{ℕ, _<_}
+use native.Mathlib.Omega.{arith}
+use lib.Count.{onesIn, ones}
+use lib.Dec.{T, eqb, eqb→eq}
+use Rattle.algebra.specs.Bytes.{at}
+use Rattle.algebra.specs.Sums.{foldBelow}
+use Rattle.algebra.specs.Terms.{inside, only}
+use Rattle.algebra.specs.Coefficients.{xorInside, coefficient}
+use Rattle.algebra.proofs.Terms.{and-left, and-right}
+use Rattle.search.specs.Split.{putDigit, lowDigit, dropDigit, gather, spread, outside, join}
+use Rattle.search.specs.Costs.{counted, weight, products, literals}
+use Rattle.search.specs.Least.{better, firstLeast, chosen}
+use Rattle.search.specs.Answers.{blockFunction, memberCoefficient, blockCharge, leastPolarity, pairCharge, validPair, leastPair}
+use Rattle.search.specs.Answers.{answerPair, answerMixed, answerFixed, answerPolarity, answerCoefficient}
+use Rattle.search.specs.BlockTable.{pack, entry}
+use Rattle.search.specs.Designs.{costOf, termsBelow, numbers, Design, states, Holds, markedDesigns, orTable, zeroTable, oneTable, withoutTable, printedTable}
+
+-- ---- the test
+
+-- two lists are the same, number by number
+unfoldable same : List ℕ → List ℕ → Bool
+same [] [] = true
+same [] (y ∷ ys) = false
+same (x ∷ xs) [] = false
+same (x ∷ xs) (y ∷ ys) = eqb x y && same xs ys
+
+same-is : (xs ys : List ℕ) → T (same xs ys) → xs ≡ ys
+unfolding same
+same-is [] [] t = refl
+same-is [] (y ∷ ys) t = absurd t
+same-is (x ∷ xs) [] t = absurd t
+same-is (x ∷ xs) (y ∷ ys) t =
+    ap₂ _∷_ (eqb→eq x y (and-left (eqb x y) (same xs ys) t)) (same-is xs ys (and-right (eqb x y) (same xs ys) t))
+
+unfoldable agrees : Design → Bool
+agrees (states asked stated) = same (numbers asked) stated
+
+unfoldable allAgree : List Design → Bool
+allAgree [] = true
+allAgree (d ∷ ds) = agrees d && allAgree ds
+
+-- ---- the rows
+
+agrees-holds : (d : Design) → T (agrees d) → Holds d
+unfolding agrees
+agrees-holds (states asked stated) t = same-is (numbers asked) stated t
+
+all-hold : (ds : List Design) → T (allAgree ds) → (d : Design) → List·Memᴰ d ds → Holds d
+unfolding allAgree
+all-hold [] t d m = absurd (List·Memᴰ·not-nil m)
+all-hold (e ∷ ds) t d m = go (all-hold ds (and-right (agrees e) (allAgree ds) t) d) (List·Memᴰ·cases-cons m)
+  where
+    go : (List·Memᴰ d ds → Holds d) → (d ≡ e) ⊎ List·Memᴰ d ds → Holds d
+    go rest (inl p) = agrees-holds d (rw p (and-left (agrees e) (allAgree ds) t))
+    go rest (inr l) = rest l
+
+all-agree : T (allAgree markedDesigns)
+unfolding same agrees allAgree markedDesigns numbers termsBelow orTable zeroTable oneTable withoutTable printedTable foldBelow inside only xorInside coefficient pack entry putDigit lowDigit dropDigit gather spread outside join counted weight products literals better firstLeast chosen blockFunction memberCoefficient blockCharge leastPolarity pairCharge validPair leastPair answerPair answerMixed answerFixed answerPolarity answerCoefficient onesIn ones
+all-agree = tt
+
+pub designs-hold : (d : Design) → List·Memᴰ d markedDesigns → Holds d
+designs-hold = all-hold markedDesigns all-agree
+
+-- ---- a larger k can be dearer
+
+module _ (k cost : ℕ) where
+  row : Design
+  row = states (costOf 2 k withoutTable) (cost ∷ 3 ∷ [])
+
+  row-products : List·Memᴰ row markedDesigns → products 2 (answerCoefficient 2 k (at withoutTable)) ≡ cost
+  unfolding row numbers
+  row-products m = let costs = designs-hold row m in cc
+
+pub larger-k-dearer : products 2 (answerCoefficient 2 1 (at withoutTable)) < products 2 (answerCoefficient 2 2 (at withoutTable))
+unfolding markedDesigns row
+larger-k-dearer =
+    let one = row-products 1 2 (search (List·Memᴰ·head, List·Memᴰ·tail) depth 20) in
+    let two = row-products 2 3 (search (List·Memᴰ·head, List·Memᴰ·tail) depth 20) in
+    omega arith

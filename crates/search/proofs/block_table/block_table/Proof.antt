@@ -1,0 +1,17 @@
+-- The rule of all 2,048 entries is one test, which the checker computes; `matches-tabulate` turns it into the equation, and
+-- `blockTable-entry` (proofs/BlockTable) reads an entry off it.
+use mathlib.Core.Path.{refl}
+use Rattle.algebra.specs.Sums.{foldBelow}
+use Rattle.algebra.specs.Terms.{inside, only}
+use Rattle.algebra.specs.Coefficients.{xorInside, coefficient}
+use Rattle.search.specs.BlockTable.{pack, entry, blockTable}
+use Rattle.search.proofs.Tables.{matches, matches-tabulate}
+use Rattle.search.proofs.block_table.block_table.Statement.{statement}
+use Rattle.search.proofs.block_table.block_table.Tie as tie
+
+returns : tie.Need-returns
+unfolding foldBelow inside only xorInside coefficient pack entry blockTable matches
+returns c = matches-tabulate 2048 _ _ refl tt
+
+pub block-table-spec : {M : Type 1} → statement M
+block-table-spec = tie.close (tie.spec returns)

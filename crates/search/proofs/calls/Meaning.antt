@@ -1,0 +1,104 @@
+-- What the minimising call promises, from the record that the search hands up: `minimise-found` where it is carried out, and
+-- `minimise-refused` where it declines.
+use mathlib.Core.Path.{_≡_, refl, sym, ap, _∙_}
+use mathlib.Core.List.{List}
+use Prim.Native.Nat.{ℕ, zero, suc, _-_, _^_, _<_}
+use native.Mathlib.Omega.{arith}
+use lib.ListN.{length}
+use lib.Pow.{pow-pos}
+use Rattle.algebra.specs.Bytes.{at, tabulate}
+use Rattle.algebra.specs.Calls.{unlessRefused}
+use Rattle.algebra.proofs.Bytes.{tabulate-ext}
+use Rattle.algebra.proofs.calls.Judging.{below-at}
+use Rattle.algebra.proofs.calls.Meaning.{kept}
+use Rattle.search.specs.Answers.{Minimal, answerPolarity, answerCoefficient}
+use Rattle.search.specs.Expansion.{answerExpansion}
+use Rattle.search.specs.Calls.{refusal, answered, Minimise}
+use Rattle.search.specs.declared.expansion.Expansion.{Expansion}
+use Rattle.search.specs.declared.calls.Minimised.the-variants.{Found, Refused}
+use Rattle.search.proofs.Answers.{answer-minimal, answer-coefficient-lt}
+use Rattle.search.proofs.expansion.Answer.{at-coefficients, at-blocks, expansion-coefficients, expansion-blocks}
+use Rattle.search.proofs.calls.Judging.{Accepted, refusal-none}
+
+-- ---- carried out
+
+module _ (n m k : ℕ) (table c b : List ℕ) (a : Accepted n m k table (length c) (length b)) where
+  abbrev filledCoefficients : List ℕ
+  filledCoefficients = tabulate (2 ^ n) (answerCoefficient n k (at table))
+
+  abbrev filledBlocks : List ℕ
+  filledBlocks = tabulate (2 ^ (n - k)) (answerPolarity n k (at table))
+
+  copied-coefficients : tabulate (length c) (at (answerExpansion n k (at table) .coefficients)) ≡ filledCoefficients
+  copied-coefficients = rw (a .coefficients-long) (tabulate-ext (2 ^ n) _ _ (λ t l. expansion-coefficients n k (at table) (a .bounded .inputs .1) t))
+
+  copied-blocks : tabulate (length b) (at (answerExpansion n k (at table) .blocks)) ≡ filledBlocks
+  copied-blocks = rw (a .blocks-long) (tabulate-ext (2 ^ (n - k)) _ _ (λ j l. expansion-blocks n k (at table) (a .bounded .inputs .1) j))
+
+  filled-minimal : Minimal n k (at table) (answerExpansion n k (at table) .mixed) (answerExpansion n k (at table) .fixed) (at filledBlocks) (at filledCoefficients)
+      (answerExpansion n k (at table) .products) (answerExpansion n k (at table) .literals)
+  unfolding answerExpansion
+  filled-minimal =
+      rw (at-coefficients n k (at table) (2 ^ n) (omega arith), at-blocks n k (at table) (2 ^ (n - k)) (omega arith))
+      (answer-minimal n k (at table) (a .bounded .inputs .1) (a .bounded .mixed .1))
+
+  filled-outputs : (t : ℕ) → at filledCoefficients t < 2 ^ m
+  filled-outputs t =
+      rw (ap (λ (g : ℕ → ℕ). g t) (at-coefficients n k (at table) (2 ^ n) (omega arith)))
+      (answer-coefficient-lt n k (at table) (a .bounded .mixed .1) m (λ p l. below-at (2 ^ m) table (pow-pos m) (a .clean) p) t)
+
+pub minimise-found : (n m k : ℕ) (table c c′ b b′ : List ℕ) (e : Expansion) → refusal n m k table (length c) (length b) ≡ 0
+    → e ≡ answerExpansion n k (at table) → c′ ≡ tabulate (length c) (at (e .coefficients)) → b′ ≡ tabulate (length b) (at (e .blocks))
+    → Minimise n m k table c c′ b b′ (Found (e .mixed) (e .fixed) (e .products) (e .literals))
+unfolding answered
+minimise-found n m k table c c′ b b′ e none is copied-c copied-b =
+    record {
+      answer = rw (none, is);
+      coefficients = rw none full-c;
+      blocks = rw none full-b;
+      meaning = λ M i p l r. named M i p l r minimal;
+      outputs = λ M i p l r t h. rw full-c (filled-outputs n m k table c b a t);
+    }
+  where
+    a : Accepted n m k table (length c) (length b)
+    a = refusal-none n m k table (length c) (length b) none
+
+    full-c : c′ ≡ tabulate (2 ^ n) (answerCoefficient n k (at table))
+    full-c = copied-c ∙ rw is (copied-coefficients n m k table c b a)
+
+    full-b : b′ ≡ tabulate (2 ^ (n - k)) (answerPolarity n k (at table))
+    full-b = copied-b ∙ rw is (copied-blocks n m k table c b a)
+
+    minimal : Minimal n k (at table) (e .mixed) (e .fixed) (at b′) (at c′) (e .products) (e .literals)
+    minimal = rw (full-c, full-b, is) (filled-minimal n m k table c b a)
+
+    -- the returned numbers are the record's
+    named : (M i p l : ℕ) → Found (e .mixed) (e .fixed) (e .products) (e .literals) ≡ Found M i p l
+        → Minimal n k (at table) (e .mixed) (e .fixed) (at b′) (at c′) (e .products) (e .literals) → Minimal n k (at table) M i (at b′) (at c′) p l
+    named M i p l r =
+        let mixed : M ≡ e .mixed = cc in
+        let fixed : i ≡ e .fixed = cc in
+        let products : p ≡ e .products = cc in
+        let literals : l ≡ e .literals = cc in
+        rw (mixed, fixed, products, literals) (λ x. x)
+
+-- ---- declined
+
+answered-refused : (x : ℕ) (e : Expansion) → (x ≡ 0 → ⊥) → answered x e ≡ Refused x 0
+unfolding answered
+answered-refused zero e h = absurd (h refl)
+answered-refused (suc x) e h = refl
+
+refused-not-found : {A : Type 0} (x M i p l : ℕ) → Refused x 0 ≡ Found M i p l → A
+refused-not-found x M i p l e = let z : _≡_ {A = ℕ} 0 1 = cc in absurd (omega arith)
+
+pub minimise-refused : (n m k : ℕ) (table c b : List ℕ) (x : ℕ) → x ≡ refusal n m k table (length c) (length b) → (x ≡ 0 → ⊥)
+    → Minimise n m k table c c b b (Refused x 0)
+minimise-refused n m k table c b x e h =
+    record {
+      answer = rw (← e) (sym (answered-refused x _ h));
+      coefficients = rw (← e) (kept x _ c h);
+      blocks = rw (← e) (kept x _ b h);
+      meaning = λ M i p l r. refused-not-found x M i p l r;
+      outputs = λ M i p l r. refused-not-found x M i p l r;
+    }

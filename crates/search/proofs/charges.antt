@@ -1,0 +1,4 @@
+pub mod Bytes
+pub mod Used
+pub mod Polarities
+pub mod Pairs

@@ -1,0 +1,73 @@
+-- The answer's record: what stands at its places (`expansion-coefficients`, `expansion-blocks`), the bounds of what it holds, and that it
+-- is the answer (`answerExpansion-is`).
+use mathlib.Core.Path.{_≡_, ap, fun-ext}
+use Prim.Native.Nat.{ℕ, _-_, _^_, _≤_, _<_}
+use native.Mathlib.Nat.{mul-le-mul}
+use native.Mathlib.Omega.{arith}
+use lib.Pow.{pow-mono}
+use Rattle.algebra.specs.Bytes.{at, tabulate}
+use Rattle.search.specs.Answers.{answerPolarity, answerCoefficient}
+use Rattle.search.specs.Expansion.{answerExpansion, Answered}
+use Rattle.search.proofs.Tables.{at-whole}
+use Rattle.search.proofs.Costs.{products-le, literals-le}
+use Rattle.search.proofs.Answers.{answer-coefficient-zero, answer-polarity-zero, answer-member, answer-minimal, answer-ext, answer-coefficient-lt, answer-polarity-lt}
+
+-- ---- the answer's places, in a table that holds all that are not 0
+
+pub at-coefficients : (n k : ℕ) (f : ℕ → ℕ) (N : ℕ) → 2 ^ n ≤ N → at (tabulate N (answerCoefficient n k f)) ≡ answerCoefficient n k f
+at-coefficients n k f N h = at-whole N (answerCoefficient n k f) (λ t l. answer-coefficient-zero n k f t (omega arith))
+
+pub at-blocks : (n k : ℕ) (f : ℕ → ℕ) (N : ℕ) → 2 ^ (n - k) ≤ N → at (tabulate N (answerPolarity n k f)) ≡ answerPolarity n k f
+at-blocks n k f N h = at-whole N (answerPolarity n k f) (λ t l. answer-polarity-zero n k f t (omega arith))
+
+module _ (n k : ℕ) (f : ℕ → ℕ) (hn : n ≤ 8) where
+  -- ---- the record's places
+
+  expansion-coefficients-whole : at (answerExpansion n k f .coefficients) ≡ answerCoefficient n k f
+  unfolding answerExpansion
+  expansion-coefficients-whole = at-coefficients n k f 256 (pow-mono hn)
+
+  expansion-blocks-whole : at (answerExpansion n k f .blocks) ≡ answerPolarity n k f
+  unfolding answerExpansion
+  expansion-blocks-whole = at-blocks n k f 256 (omega (arith, pow-mono {i = n - k} {j = 8} (omega arith)))
+
+  pub expansion-coefficients : (t : ℕ) → at (answerExpansion n k f .coefficients) t ≡ answerCoefficient n k f t
+  expansion-coefficients t = ap (λ (g : ℕ → ℕ). g t) expansion-coefficients-whole
+
+  pub expansion-blocks : (j : ℕ) → at (answerExpansion n k f .blocks) j ≡ answerPolarity n k f j
+  expansion-blocks j = ap (λ (g : ℕ → ℕ). g j) expansion-blocks-whole
+
+  -- ---- bounds
+
+  pub expansion-coefficients-lt : (m : ℕ) → k ≤ n → ((p : ℕ) → p < 2 ^ n → f p < 2 ^ m) → (t : ℕ) → at (answerExpansion n k f .coefficients) t < 2 ^ m
+  expansion-coefficients-lt m hk outputs t = rw (expansion-coefficients t) (answer-coefficient-lt n k f hk m outputs t)
+
+  pub expansion-blocks-lt : k ≤ n → (j : ℕ) → at (answerExpansion n k f .blocks) j < 2 ^ k
+  expansion-blocks-lt hk j = rw (expansion-blocks j) (answer-polarity-lt n k f hk j)
+
+  pub expansion-mixed-lt : k ≤ n → answerExpansion n k f .mixed < 2 ^ n
+  unfolding answerExpansion
+  expansion-mixed-lt hk = answer-member n k f hk .mask
+
+  pub expansion-fixed-lt : k ≤ n → answerExpansion n k f .fixed < 2 ^ n
+  unfolding answerExpansion
+  expansion-fixed-lt hk = answer-member n k f hk .fixed
+
+  pub expansion-products-le : answerExpansion n k f .products ≤ 256
+  unfolding answerExpansion
+  expansion-products-le = omega (arith, products-le n (answerCoefficient n k f), pow-mono hn)
+
+  pub expansion-literals-le : answerExpansion n k f .literals ≤ 1024
+  unfolding answerExpansion
+  expansion-literals-le = omega (arith, literals-le n (answerCoefficient n k f), mul-le-mul (pow-mono hn) hn)
+
+  -- ---- it is the answer
+
+  pub answerExpansion-is : k ≤ n → Answered n k f (answerExpansion n k f)
+  unfolding answerExpansion
+  answerExpansion-is hk = rw (expansion-coefficients-whole, expansion-blocks-whole) (answer-minimal n k f hn hk)
+
+-- only the table's values at the points count
+pub answerExpansion-ext : (n k : ℕ) (f g : ℕ → ℕ) → ((p : ℕ) → p < 2 ^ n → f p ≡ g p) → answerExpansion n k f ≡ answerExpansion n k g
+unfolding answerExpansion
+answerExpansion-ext n k f g e = let a = answer-ext n k f g e in rw (a .0, a .1, fun-ext (a .2), fun-ext (a .3))

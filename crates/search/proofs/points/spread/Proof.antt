@@ -1,0 +1,75 @@
+-- `spread` meets its contract: x has the bits of y at the inputs of the mask below b.
+use borrow.Author.Needs.{needs}
+use mathlib.Core.Path.{_≡_, refl, _∙_, ap}
+use Prim.Native.Nat.{ℕ, _+_, _-_}
+use Rattle.search.specs.Split.{spread}
+use Rattle.search.proofs.points.Walks.{Passed, passed-none, passed-more, passed-few, passed-all, bits-lt, spread-digit, spread-small}
+use native.Mathlib.Omega.{arith}
+use Rattle.search.proofs.points.spread.Statement.{statement}
+use Rattle.search.proofs.points.spread.Tie as tie
+
+abbrev Inv-loop : tie.InvT-loop
+Inv-loop n mask y x₀ used₀ b₀ x used b = Passed n mask used b × (x ≡ spread b mask y)
+
+abbrev μ-loop : tie.MeasureT-loop
+μ-loop n mask y x₀ used₀ b₀ x used b = n - b
+
+loop-holds : tie.Need-loop-holds Inv-loop μ-loop
+unfolding spread
+loop-holds c = (passed-none _ _ (c .pre), refl)
+
+shr-inside : tie.Need-shr-inside Inv-loop μ-loop
+shr-inside c = search needs
+
+shr-digit : tie.Need-shr-digit Inv-loop μ-loop
+shr-digit c = omega (arith, passed-few _ _ _ _ (c .before .loop .inv .0))
+
+mul-digit : tie.Need-mul-digit Inv-loop μ-loop
+mul-digit c = let l = c .before .loop in omega (arith, bits-lt (l .b) (c .before .before .args .mask) (l .used) (c .before .before .args .y))
+
+shl-x : tie.Need-shl-x Inv-loop μ-loop
+shl-x c = search needs
+
+add-x : tie.Need-add-x Inv-loop μ-loop
+add-x c =
+    let l = c .before .loop in
+    let a = c .before .before .args in
+    omega (arith, spread-digit _ _ _ _ _ (a .y) (l .inv .0) (l .inv .1), spread-small (l .b + 1) (a .mask) (a .y) (omega arith))
+
+add-used : tie.Need-add-used Inv-loop μ-loop
+add-used c = omega (arith, passed-few _ _ _ _ (c .before .loop .inv .0))
+
+add-b : tie.Need-add-b Inv-loop μ-loop
+add-b c = search needs
+
+loop-less : tie.Need-loop-less Inv-loop μ-loop
+loop-less c = search needs
+
+loop-again : tie.Need-loop-again Inv-loop μ-loop
+loop-again c =
+    let l = c .before .loop in
+    (passed-more _ _ _ _ (c .loop-test .taken) (l .inv .0), spread-digit _ _ _ _ _ _ (l .inv .0) (l .inv .1))
+
+returns : tie.Need-returns Inv-loop μ-loop
+returns c =
+    let l = c .before .loop in
+    let a = c .before .before .args in
+    l .inv .1 ∙ ap (λ (b : ℕ). spread b (a .mask) (a .y)) (passed-all _ _ _ _ (c .loop-test .left) (l .inv .0))
+
+pub spread-spec : {M : Type 1} → statement M
+spread-spec =
+    tie.close
+    (tie.spec
+    Inv-loop
+    μ-loop
+    loop-holds
+    shr-inside
+    shr-digit
+    mul-digit
+    shl-x
+    add-x
+    add-used
+    add-b
+    loop-less
+    loop-again
+    returns)

@@ -1,0 +1,53 @@
+-- The leader of all the pairs is the answer's: its pair is the answer's M and i (`leader-mixed`, `leader-fixed`), and its charge tells the
+-- answer's products and literals (`leader-products`, `leader-literals`).
+use mathlib.Core.Path.{_≡_, sym, ap, _∙_}
+use Prim.Native.Nat.{ℕ, _-_, _*_, _/_, _%_, _^_, _≤_}
+use native.Mathlib.Omega.{arith}
+use lib.Bits.{bitAnd, and-mask}
+use Rattle.algebra.proofs.Shifts.{one-shifted}
+use Rattle.search.specs.Members.{Member}
+use Rattle.search.specs.Costs.{products, literals, charge}
+use Rattle.search.specs.Answers.{leastPair, answerPair, answerMixed, answerFixed, answerPolarity, answerCoefficient}
+use Rattle.search.specs.Search.{pairValid, pairCost, Leads}
+use Rattle.search.specs.declared.pairs.Leader.{Leader}
+use Rattle.search.proofs.Least.{leading-chosen}
+use Rattle.search.proofs.Costs.{charge-products, charge-literals}
+use Rattle.search.proofs.Answers.{answer-first, answer-member, answer-charge}
+
+module _ (n k : ℕ) (f : ℕ → ℕ) (leader : Leader) (hn : n ≤ 8) (hk : k ≤ n) (leads : Leads n k f (2 ^ n * 2 ^ n) leader) where
+  -- there is a valid pair, so the leader stands for one
+  leader-stands : (leader .pair ≡ answerPair n k f) × (leader .charge ≡ pairCost n k f (answerPair n k f))
+  unfolding answerPair leastPair
+  leader-stands =
+      let a = answer-first n k f hk in
+      leading-chosen 4294967295 (pairValid n k) (pairCost n k f) (2 ^ n * 2 ^ n) (leader .charge) (leader .pair) leads (answerPair n k f) (a .below) (a .fits)
+
+  -- ---- M and i
+
+  pub leader-pair : leader .pair ≡ answerPair n k f
+  leader-pair = leader-stands .0
+
+  pub leader-mixed : leader .pair / 2 ^ n ≡ answerMixed n k f
+  unfolding answerMixed
+  leader-mixed = ap (λ (x : ℕ). x / 2 ^ n) leader-pair
+
+  -- as code masks the pair
+  pub leader-fixed : bitAnd (leader .pair) (1 * 2 ^ n % 2 ^ 64 - 1) ≡ answerFixed n k f
+  unfolding answerFixed
+  leader-fixed = rw (one-shifted n (omega arith)) (and-mask (leader .pair) n ∙ ap (λ (x : ℕ). x % 2 ^ n) leader-pair)
+
+  -- so they are of a member
+  pub leader-member : Member n k (leader .pair / 2 ^ n) (bitAnd (leader .pair) (1 * 2 ^ n % 2 ^ 64 - 1)) (answerPolarity n k f)
+  leader-member = rw (leader-mixed, leader-fixed) (answer-member n k f hk)
+
+  -- ---- products and literals
+
+  pub leader-charge : leader .charge ≡ charge n (answerCoefficient n k f)
+  unfolding answerMixed answerFixed
+  leader-charge = leader-stands .1 ∙ sym (answer-charge n k f hk)
+
+  pub leader-products : leader .charge / 4096 ≡ products n (answerCoefficient n k f)
+  leader-products = ap (λ (x : ℕ). x / 4096) leader-charge ∙ charge-products n (answerCoefficient n k f) hn
+
+  pub leader-literals : leader .charge % 4096 ≡ literals n (answerCoefficient n k f)
+  leader-literals = ap (λ (x : ℕ). x % 4096) leader-charge ∙ charge-literals n (answerCoefficient n k f) hn

@@ -1,0 +1,54 @@
+-- The loop fills the array by `polarityAt`, from the front.
+use borrow.Author.Needs.{needs}
+use Prim.Native.Nat.{_-_}
+use Rattle.algebra.specs.Bytes.{at}
+use Rattle.search.specs.Search.{polarityAt}
+use Rattle.algebra.proofs.Bytes.{Filled, filled-none, filled-more, filled-all}
+use native.Mathlib.Omega.{arith}
+use Rattle.search.proofs.record.polarities.Statement.{statement}
+use Rattle.search.proofs.record.polarities.Tie as tie
+
+abbrev Inv-loop : tie.InvT-loop
+Inv-loop blocks charges n m k functions all₀ j₀ all j = Filled (polarityAt n m k (at functions)) j all₀ all
+
+abbrev μ-loop : tie.MeasureT-loop
+μ-loop blocks charges n m k functions all₀ j₀ all j = 256 - j
+
+loop-holds : tie.Need-loop-holds Inv-loop μ-loop
+loop-holds c = filled-none _ _
+
+polarity-at-requires : tie.Need-polarity-at-requires Inv-loop μ-loop
+polarity-at-requires c κs = c .before .before .before .pre
+
+array-write-all : tie.Need-array-write-all Inv-loop μ-loop
+array-write-all c = search needs
+
+add-j : tie.Need-add-j Inv-loop μ-loop
+add-j c = search needs
+
+loop-less : tie.Need-loop-less Inv-loop μ-loop
+loop-less c = search needs
+
+loop-again : tie.Need-loop-again Inv-loop μ-loop
+loop-again c =
+    let l = c .before .before .loop in
+    filled-more _ _ _ _ _ (omega (arith, l .inv .long)) (c .polarity-at .ensures) (l .inv)
+
+returns : tie.Need-returns Inv-loop μ-loop
+returns c =
+    let l = c .before .loop in
+    filled-all _ (l .j) _ (l .all) (omega (arith, l .inv .long)) (l .inv)
+
+pub polarities-spec : {M : Type 1} → statement M
+polarities-spec =
+    tie.close
+    (tie.spec
+    Inv-loop
+    μ-loop
+    loop-holds
+    polarity-at-requires
+    array-write-all
+    add-j
+    loop-less
+    loop-again
+    returns)

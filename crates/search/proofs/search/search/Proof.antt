@@ -1,0 +1,30 @@
+-- `search` meets its contract.
+use borrow.Author.Needs.{needs}
+use mathlib.Core.Path.{_≡_, sym, _∙_}
+use Rattle.search.specs.Expansion.{searched}
+use Rattle.search.proofs.search.Searchable.{allowed-sizes, allowed-table}
+use Rattle.search.proofs.search.search.Statement.{statement}
+use Rattle.search.proofs.search.search.Tie as tie
+
+allowed-requires : tie.Need-allowed-requires
+allowed-requires c κs = search needs
+
+search-allowed-requires : tie.Need-search-allowed-requires
+search-allowed-requires c κs =
+    let e = sym (c .before .allowed .ensures) ∙ c .if1 .taken in
+    (allowed-sizes _ _ _ _ e, allowed-table _ _ _ _ e)
+
+returns : tie.Need-returns
+unfolding searched
+returns c = c .search-allowed .ensures ∙ sym (rw (sym (c .before .before .allowed .ensures) ∙ c .before .if1 .taken))
+
+empty-requires : tie.Need-empty-requires
+empty-requires c κs = search needs
+
+returns-2 : tie.Need-returns-2
+unfolding searched
+returns-2 c = c .empty .ensures ∙ sym (rw (sym (c .before .before .allowed .ensures) ∙ c .before .if1 .left))
+
+pub search-spec : {M : Type 1} → statement M
+search-spec =
+    tie.close (tie.spec allowed-requires search-allowed-requires returns empty-requires returns-2)

@@ -1,0 +1,48 @@
+-- Document 01's expansion record: the answer as the search hands it up, and the record with no product.
+use mathlib.Core.Bool.{Bool, _&&_}
+use mathlib.Core.List.{List}
+use Prim.Native.Nat.{ℕ, _-_, _^_, min}
+use lib.Dec.{leb, eqb}
+use lib.ListN.{length, replicate}
+use Rattle.algebra.specs.Bytes.{at, tabulate}
+use Rattle.algebra.specs.Calls.{allBelow}
+use Rattle.algebra.specs.Transform.{pick}
+use Rattle.search.specs.Costs.{products, literals}
+use Rattle.search.specs.Answers.{Minimal, answerMixed, answerFixed, answerPolarity, answerCoefficient}
+use Rattle.search.specs.declared.expansion.Expansion.{Expansion}
+
+-- "the search hands up an expansion record that holds the 256 coefficient places, zero from 2^n on", and as many block places
+unfoldable pub answerExpansion : ℕ → ℕ → (ℕ → ℕ) → Expansion
+answerExpansion n k f =
+    record {
+      coefficients = tabulate 256 (answerCoefficient n k f);
+      blocks = tabulate 256 (answerPolarity n k f);
+      mixed = answerMixed n k f;
+      fixed = answerFixed n k f;
+      products = products n (answerCoefficient n k f);
+      literals = literals n (answerCoefficient n k f);
+    }
+
+-- the record holds the answer for the table f: "the member that gives the table with fewest products, .."
+abbrev pub Answered : ℕ → ℕ → (ℕ → ℕ) → Expansion → Type 0
+Answered n k f e = Minimal n k f (e .mixed) (e .fixed) (at (e .blocks)) (at (e .coefficients)) (e .products) (e .literals)
+
+-- "All zero: M = 2^k − 1, i = 0, 0 products", with no more than the eight inputs in M
+unfoldable pub emptyExpansion : ℕ → Expansion
+emptyExpansion k =
+    record {
+      coefficients = replicate 256 0;
+      blocks = replicate 256 0;
+      mixed = 2 ^ min k 8 - 1;
+      fixed = 0;
+      products = 0;
+      literals = 0;
+    }
+
+-- sizes that document 01 allows, and the bytes of a table of n inputs and m outputs
+unfoldable pub searchable : ℕ → ℕ → ℕ → List ℕ → Bool
+searchable n m k table = leb n 8 && (leb m 8 && (leb k 3 && (leb k n && (eqb (length table) (2 ^ n) && allBelow (2 ^ m) table))))
+
+-- what the search hands up: the answer's record, and the empty record where there is no such table
+unfoldable pub searched : ℕ → ℕ → ℕ → List ℕ → Expansion
+searched n m k table = pick (searchable n m k table) (answerExpansion n k (at table)) (emptyExpansion k)

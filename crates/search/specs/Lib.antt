@@ -1,0 +1,11 @@
+pub mod Split
+pub mod Members
+pub mod Costs
+pub mod Charges
+pub mod Least
+pub mod Answers
+pub mod BlockTable
+pub mod Expansion
+pub mod Search
+pub mod Calls
+pub mod Designs

@@ -1,0 +1,56 @@
+// The expansion record of document 01, which the search hands up, and the limits of what it holds. The empty record is document 01's
+// answer for a table that is all zero.
+ghost use mathlib.Core.Path.{_≡_};
+ghost use Prim.Native.Nat.{_-_, _^_, min};
+ghost use Rattle.search.specs.Expansion.{emptyExpansion};
+
+// A member of the class and what it costs: the coefficient of each term, the polarity of each block, the mixed set M and the fixed
+// polarity i as masks, and the counts of products and literals.
+pub struct Expansion {
+    pub coefficients: [u8; 256],
+    pub blocks: [u8; 256],
+    pub mixed: usize,
+    pub fixed: usize,
+    pub products: usize,
+    pub literals: usize,
+}
+
+impl Expansion {
+    // The most inputs a table has: n is 1 to 8.
+    pub const MOST_INPUTS: usize = 8;
+
+    // The most outputs: m is 1 to 8.
+    pub const MOST_OUTPUTS: usize = 8;
+
+    // The most mixed inputs: k is 0 to 3, and at most n.
+    pub const MOST_MIXED: usize = 3;
+
+    // The coefficient places, one for each term of eight inputs; there are as many for the block polarities.
+    pub const PLACES: usize = 256;
+
+    // The expansion with no product, whose mixed set is the k lowest inputs. A k above 8 is read as 8, so that the set stays
+    // within the eight inputs; nothing is refused.
+    pub fn empty(k: usize) -> Expansion
+        ensures { λ r. ⌜ r ≡ emptyExpansion k ⌝ }
+    {
+        let mixed = lowest_inputs(k);
+        Expansion {
+            coefficients: [0u8; Expansion::PLACES],
+            blocks: [0u8; Expansion::PLACES],
+            mixed,
+            fixed: 0,
+            products: 0,
+            literals: 0,
+        }
+    }
+}
+
+// The mask of the k lowest inputs, of all eight where k is above 8.
+fn lowest_inputs(k: usize) -> usize
+    ensures { λ r. ⌜ r ≡ 2 ^ min k 8 - 1 ⌝ }
+{
+    if Expansion::MOST_INPUTS < k {
+        return Expansion::PLACES - 1;
+    }
+    (1 << k) - 1
+}

@@ -1,0 +1,108 @@
+// The minimising search: it hands up the expansion record of document 01's answer.
+ghost use mathlib.Core.Path.{_≡_};
+ghost use Prim.Native.Nat.{ℕ, _*_, _-_, _^_, _≤_, _<_};
+ghost use lib.ListN.{length};
+ghost use Rattle.algebra.specs.Bytes.{at, tabulate};
+ghost use Rattle.search.specs.BlockTable.{blockTable};
+ghost use Rattle.search.specs.Charges.{byteCharge};
+ghost use Rattle.search.specs.Expansion.{answerExpansion, searchable, searched};
+ghost use Rattle.search.specs.Search.{Sizes, Given, Room};
+use crate::block_table::block_table;
+use crate::charges::byte_charges;
+use crate::expansion::Expansion;
+use crate::pairs::first_least;
+use crate::record::expansion_of;
+use algebra::calls::within_outputs;
+
+// The answer's record, in lent room for the places, the planes and the block functions.
+fn search_within(
+    blocks: &[u8; 2048],
+    charges: &[u32; 256],
+    n: usize,
+    m: usize,
+    k: usize,
+    table: &[u8],
+    places: &mut [u8],
+    planes: &mut [u8],
+    functions: &mut [u8],
+) -> Expansion
+    requires { ⌜ (now blocks ≡ blockTable) × (now charges ≡ tabulate 256 byteCharge) ⌝ }
+    requires { ⌜ Sizes n m k ⌝ }
+    requires { ⌜ Given n m (now table) ⌝ }
+    requires { ⌜ Room n m k (length (now places)) (length (now planes)) (length (now functions)) ⌝ }
+    ensures { λ e. ⌜ e ≡ answerExpansion n k (at (now (table .entry))) ⌝ }
+{
+    let leader = first_least(blocks, charges, n, m, k, table, places, planes, functions);
+    expansion_of(
+        blocks,
+        charges,
+        n,
+        m,
+        k,
+        table,
+        places,
+        planes,
+        functions,
+        leader,
+    )
+}
+
+// The record of the answer, in room of its own.
+fn search_allowed(n: usize, m: usize, k: usize, table: &[u8]) -> Expansion
+    requires { ⌜ Sizes n m k ⌝ }
+    requires { ⌜ Given n m (now table) ⌝ }
+    ensures { λ e. ⌜ e ≡ answerExpansion n k (at (now (table .entry))) ⌝ }
+{
+    let blocks = block_table();
+    let charges = byte_charges();
+    let mut places = [0u8; 2048];
+    let mut planes = [0u8; 2048];
+    let mut functions = [0u8; 2048];
+    let rows: usize = 8 << (n - k);
+    let used = m << (n - k);
+    search_within(
+        &blocks,
+        &charges,
+        n,
+        m,
+        k,
+        table,
+        &mut places[..rows],
+        &mut planes[..used],
+        &mut functions[..used],
+    )
+}
+
+// Whether n, m and k are sizes that document 01 allows and the bytes are a table of n inputs and m outputs.
+fn allowed(n: usize, m: usize, k: usize, table: &[u8]) -> bool
+    ensures { λ r. ⌜ r ≡ searchable n m k (now (table .entry)) ⌝ }
+{
+    if Expansion::MOST_INPUTS < n {
+        return false;
+    }
+    if Expansion::MOST_OUTPUTS < m {
+        return false;
+    }
+    if Expansion::MOST_MIXED < k {
+        return false;
+    }
+    if n < k {
+        return false;
+    }
+    let size: usize = 1 << n;
+    if table.len() != size {
+        return false;
+    }
+    within_outputs(m, table)
+}
+
+// The record of the answer for a table of n inputs and m outputs, with k mixed inputs. Where these are not such numbers, or the bytes not
+// such a table, it hands up the empty record; the calls refuse before they get here.
+pub fn search(n: usize, m: usize, k: usize, table: &[u8]) -> Expansion
+    ensures { λ e. ⌜ e ≡ searched n m k (now (table .entry)) ⌝ }
+{
+    if allowed(n, m, k, table) {
+        return search_allowed(n, m, k, table);
+    }
+    Expansion::empty(k)
+}

@@ -1,0 +1,86 @@
+//! Tables: drawn at every bit, mostly zero, or with a rule behind them.
+
+use super::Seeded;
+use crate::evaluator::{holds, inputs, literals, places, term_true};
+
+/// The bits of m outputs.
+pub fn output_bits(m: usize) -> u8 {
+    (0..m).map(|o| 1u8 << o).sum()
+}
+
+/// A table of m outputs whose byte p is `byte(p)` without the bits at m and above.
+pub fn table_of(n: usize, m: usize, mut byte: impl FnMut(usize) -> u8) -> Vec<u8> {
+    (0..places(n)).map(|p| byte(p) & output_bits(m)).collect()
+}
+
+/// Every table of n inputs and m outputs (m * 2^n below 32).
+pub fn every_table(n: usize, m: usize) -> impl Iterator<Item = Vec<u8>> {
+    (0..1usize << (m * places(n))).map(move |number| table_of(n, m, |p| (number >> (p * m)) as u8))
+}
+
+/// A table with every bit drawn.
+pub fn random_table(seeded: &mut Seeded, n: usize, m: usize) -> Vec<u8> {
+    table_of(n, m, |_| seeded.byte())
+}
+
+/// A table that is zero at most points.
+pub fn sparse_table(seeded: &mut Seeded, n: usize, m: usize) -> Vec<u8> {
+    table_of(n, m, |_| if seeded.once_in(12) { seeded.byte() } else { 0 })
+}
+
+/// A table with a rule behind it: see `STRUCTURES`.
+pub fn structured_table(seeded: &mut Seeded, n: usize, m: usize) -> Vec<u8> {
+    let structure = seeded.pick(&STRUCTURES);
+    structure(seeded, n, m)
+}
+
+/// A table of any of the three sorts.
+pub fn any_table(seeded: &mut Seeded, n: usize, m: usize) -> Vec<u8> {
+    let maker = *seeded.pick(&[random_table, sparse_table, structured_table]);
+    maker(seeded, n, m)
+}
+
+type Maker = fn(&mut Seeded, usize, usize) -> Vec<u8>;
+
+const STRUCTURES: [Maker; 8] = [
+    |_, n, m| table_of(n, m, |_| 0),
+    |_, n, m| table_of(n, m, |_| 255),
+    |_, n, m| table_of(n, m, |p| p as u8),
+    |_, n, m| table_of(n, m, |p| (p % 16 + p / 16) as u8),
+    |_, n, m| table_of(n, m, |p| literals(n, p) as u8),
+    |seeded, n, m| {
+        let point = seeded.below(places(n));
+        table_of(n, m, |p| if p == point { 255 } else { 0 })
+    },
+    parities,
+    few_cubes,
+];
+
+/// Each output is the parity of some inputs, complemented or not.
+fn parities(seeded: &mut Seeded, n: usize, m: usize) -> Vec<u8> {
+    let chosen: Vec<usize> = (0..m).map(|_| seeded.below(places(n))).collect();
+    let flipped = seeded.byte();
+    let parity =
+        |p: usize, set: usize| inputs(n).filter(|&i| holds(p, i) && holds(set, i)).count() % 2;
+    table_of(n, m, |p| flipped ^ (0..m).map(|o| (parity(p, chosen[o]) as u8) << o).sum::<u8>())
+}
+
+/// The exclusive OR of a few cubes with outputs of their own.
+fn few_cubes(seeded: &mut Seeded, n: usize, m: usize) -> Vec<u8> {
+    let cubes: Vec<(usize, usize, u8)> = (0..seeded.within(1, 5))
+        .map(|_| (seeded.below(places(n)), seeded.below(places(n)), seeded.byte()))
+        .collect();
+    table_of(n, m, |p| {
+        let at = cubes.iter().filter(|&&(t, w, _)| term_true(n, t, w, p));
+        at.fold(0, |sum, cube| sum ^ cube.2)
+    })
+}
+
+/// A table of eight inputs and outputs for which every member of every class has all 256 products, so
+/// that its listing is the longest. Byte p is a product of one factor for each input, in the field of
+/// 256 elements: 1 where the input is 0 and 2 where it is 1. A coefficient is then a product of factors
+/// 1, 2 and 1 + 2, and never 0.
+pub fn longest_listing_table() -> Vec<u8> {
+    const POWERS_OF_2: [u8; 9] = [1, 2, 4, 8, 16, 32, 64, 128, 29];
+    table_of(8, 8, |p| POWERS_OF_2[literals(8, p)])
+}

@@ -1,0 +1,131 @@
+//! Table texts: sound ones, and ones with some damage.
+
+use super::Seeded;
+use super::tables::any_table;
+use crate::text::Design;
+
+/// A design of at most this many inputs, and its text.
+pub fn sound_text(seeded: &mut Seeded, most_inputs: usize) -> (Design, Vec<u8>) {
+    let n = seeded.within(1, most_inputs);
+    let (m, k) = (seeded.within(1, 8), seeded.below(n.min(3) + 1));
+    let design = Design { n, m, k, table: any_table(seeded, n, m) };
+    let dashed = k == 1 && seeded.once_in(2);
+    let text = if dashed { design.text_with("-") } else { design.text() };
+    (design, text)
+}
+
+/// A text with one to three damages.
+pub fn damaged_text(seeded: &mut Seeded, text: &[u8]) -> Vec<u8> {
+    let mut damaged = text.to_vec();
+    for _ in 0..seeded.within(1, 3) {
+        let damage = *seeded.pick(&DAMAGES);
+        damage(seeded, &mut damaged);
+    }
+    damaged
+}
+
+type Damage = fn(&mut Seeded, &mut Vec<u8>);
+
+const DAMAGES: [Damage; 12] = [
+    drop_byte,
+    double_byte,
+    |seeded, text| swap_bytes(seeded, text),
+    |seeded, text| change_byte(seeded, text),
+    insert_byte,
+    cut,
+    append,
+    carriage_returns,
+    |seeded, text| edit_lines(seeded, text, drop_line),
+    |seeded, text| edit_lines(seeded, text, double_line),
+    |seeded, text| edit_lines(seeded, text, move_line),
+    |seeded, text| edit_lines(seeded, text, |seeded, lines| change_field(seeded, lines)),
+];
+
+/// Bytes that stand near the grammar: its own characters, their neighbours, and bytes that no text has.
+pub const TELLING_BYTES: &[u8] = b"\x00\t\n\x0b\r ,-./0123456789:ABEOTabelnotx~\x7f\x80\xff";
+
+fn drop_byte(seeded: &mut Seeded, text: &mut Vec<u8>) {
+    if !text.is_empty() {
+        text.remove(seeded.below(text.len()));
+    }
+}
+
+fn double_byte(seeded: &mut Seeded, text: &mut Vec<u8>) {
+    if !text.is_empty() {
+        let place = seeded.below(text.len());
+        text.insert(place, text[place]);
+    }
+}
+
+fn swap_bytes(seeded: &mut Seeded, text: &mut [u8]) {
+    if text.len() > 1 {
+        let place = seeded.below(text.len() - 1);
+        let other = if seeded.once_in(2) { place + 1 } else { seeded.below(text.len()) };
+        text.swap(place, other);
+    }
+}
+
+fn change_byte(seeded: &mut Seeded, text: &mut [u8]) {
+    if !text.is_empty() {
+        let place = seeded.below(text.len());
+        text[place] = *seeded.pick(TELLING_BYTES);
+    }
+}
+
+fn insert_byte(seeded: &mut Seeded, text: &mut Vec<u8>) {
+    text.insert(seeded.below(text.len() + 1), *seeded.pick(TELLING_BYTES));
+}
+
+fn cut(seeded: &mut Seeded, text: &mut Vec<u8>) {
+    text.truncate(seeded.below(text.len() + 1));
+}
+
+fn append(seeded: &mut Seeded, text: &mut Vec<u8>) {
+    let ends: [&[u8]; 6] = [b"\n", b"end\n", b"x", b"\0", b"on\t0\t1\n", b"table\t1\t1\t0\nend\n"];
+    text.extend(*seeded.pick(&ends));
+}
+
+/// A carriage return before every byte 10.
+fn carriage_returns(_: &mut Seeded, text: &mut Vec<u8>) {
+    *text = text.split(|&byte| byte == b'\n').collect::<Vec<&[u8]>>().join(&b"\r\n"[..]);
+}
+
+/// Edits a text as a list of lines, each with its byte 10.
+fn edit_lines(seeded: &mut Seeded, text: &mut Vec<u8>, edit: fn(&mut Seeded, &mut Vec<Vec<u8>>)) {
+    let mut lines: Vec<Vec<u8>> =
+        text.split_inclusive(|&byte| byte == b'\n').map(<[u8]>::to_vec).collect();
+    if !lines.is_empty() {
+        edit(seeded, &mut lines);
+        *text = lines.concat();
+    }
+}
+
+fn drop_line(seeded: &mut Seeded, lines: &mut Vec<Vec<u8>>) {
+    lines.remove(seeded.below(lines.len()));
+}
+
+fn double_line(seeded: &mut Seeded, lines: &mut Vec<Vec<u8>>) {
+    let place = seeded.below(lines.len());
+    lines.insert(place, lines[place].clone());
+}
+
+fn move_line(seeded: &mut Seeded, lines: &mut Vec<Vec<u8>>) {
+    let line = lines.remove(seeded.below(lines.len()));
+    lines.insert(seeded.below(lines.len() + 1), line);
+}
+
+/// Fields that are sound in some place, or nearly so.
+const OTHER_FIELDS: [&str; 26] = [
+    "", "0", "1", "2", "3", "4", "8", "9", "00", "01", "10", "007", "255", "256", "999", "1000",
+    "-", "--", "+1", "end", "on", "table", "End", "00000000", "11111111", "1\t1",
+];
+
+/// Puts something else into one field of a line.
+fn change_field(seeded: &mut Seeded, lines: &mut [Vec<u8>]) {
+    let place = seeded.below(lines.len());
+    let line = lines[place].strip_suffix(b"\n").unwrap_or(&lines[place]);
+    let mut fields: Vec<&[u8]> = line.split(|&byte| byte == b'\t').collect();
+    let field = seeded.below(fields.len());
+    fields[field] = seeded.pick(&OTHER_FIELDS).as_bytes();
+    lines[place] = [fields.join(&b"\t"[..]), b"\n".to_vec()].concat();
+}

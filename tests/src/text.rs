@@ -1,0 +1,131 @@
+//! Table texts, read and written as document 01 gives them, and what the text calls make of them.
+
+mod fields;
+pub mod listing;
+
+use crate::class::least;
+use crate::evaluator::{Refusal, judge_lengths, places};
+use fields::{Line, Lines, outputs_field, read_digit, read_number, read_outputs};
+use listing::listing;
+
+/// What a table text says.
+#[derive(Clone, Debug, PartialEq, Eq)]
+pub struct Design {
+    pub n: usize,
+    pub m: usize,
+    pub k: usize,
+    pub table: Vec<u8>,
+}
+
+impl Design {
+    /// The table text, with k as a digit.
+    pub fn text(&self) -> Vec<u8> {
+        self.text_with(&self.k.to_string())
+    }
+
+    /// The table text with this field for k, which can be `-` for 1.
+    pub fn text_with(&self, k: &str) -> Vec<u8> {
+        let on = |(p, &byte): (usize, &u8)| match byte {
+            0 => String::new(),
+            _ => format!("on\t{p}\t{}\n", outputs_field(self.m, byte)),
+        };
+        let lines: String = self.table.iter().enumerate().map(on).collect();
+        format!("table\t{}\t{}\t{k}\n{lines}end\n", self.n, self.m).into_bytes()
+    }
+}
+
+/// Reads a table text, or refuses it with 1 to 6 at its first bad line.
+pub fn read(text: &[u8]) -> Result<Design, Refusal> {
+    let mut lines = Lines::new(text);
+    let mut design = read_first(&lines.next()?)?;
+    let mut last_point = None;
+    loop {
+        let line = lines.next()?;
+        if line.fields == [b"end"] {
+            break;
+        }
+        let (point, outputs) = read_on(&line, design.m).ok_or(line.refusal(1))?;
+        if point >= places(design.n) || last_point.is_some_and(|last| point <= last) {
+            return Err(line.refusal(5));
+        }
+        design.table[point] = outputs;
+        last_point = Some(point);
+    }
+    if lines.rest.is_empty() {
+        Ok(design)
+    } else {
+        Err(Refusal { number: 6, line: lines.expected })
+    }
+}
+
+/// `table`, n, m, k, judged in the order 1, 2, 3, 4.
+fn read_first(line: &Line) -> Result<Design, Refusal> {
+    let numbers = match line.fields[..] {
+        [b"table", n, m, b"-"] => read_digit(n).zip(read_digit(m)).map(|(n, m)| (n, m, 1)),
+        [b"table", n, m, k] => read_three(n, m, k),
+        _ => None,
+    };
+    let (n, m, k) = numbers.ok_or(line.refusal(1))?;
+    if !(1..=8).contains(&n) {
+        return Err(line.refusal(2));
+    }
+    if !(1..=8).contains(&m) {
+        return Err(line.refusal(3));
+    }
+    if k > 3 || k > n {
+        return Err(line.refusal(4));
+    }
+    Ok(Design { n, m, k, table: vec![0; places(n)] })
+}
+
+fn read_three(n: &[u8], m: &[u8], k: &[u8]) -> Option<(usize, usize, usize)> {
+    Some((read_digit(n)?, read_digit(m)?, read_digit(k)?))
+}
+
+/// `on`, point, outputs.
+fn read_on(line: &Line, m: usize) -> Option<(usize, u8)> {
+    match line.fields[..] {
+        [b"on", point, outputs] => Some((read_number(point, 3)?, read_outputs(outputs, m)?)),
+        _ => None,
+    }
+}
+
+/// The listing of a table text, or its refusal.
+pub fn compile(text: &[u8]) -> Result<Vec<u8>, Refusal> {
+    let design = read(text)?;
+    Ok(listing(&design, &least(design.n, design.k, &design.table)))
+}
+
+/// What the program writes for a text: the listing, or `refused`, number, line.
+pub fn printed(text: &[u8]) -> Vec<u8> {
+    compile(text).unwrap_or_else(|Refusal { number, line }| {
+        format!("refused\t{number}\t{line}\n").into_bytes()
+    })
+}
+
+/// The judgement of the reading call: 1 to 6, then 8.
+pub fn judge_read(text: &[u8], table_length: usize) -> Result<Design, Refusal> {
+    let design = read(text)?;
+    judge_lengths(&[(table_length, 256)])?;
+    Ok(design)
+}
+
+/// Refusal 10, of the text call: after 1 to 6, where the output buffer is shorter than the listing.
+pub fn judge_output(listing: &[u8], output_length: usize) -> Result<&[u8], Refusal> {
+    if output_length < listing.len() {
+        return Err(Refusal::without_line(10));
+    }
+    Ok(listing)
+}
+
+#[cfg(test)]
+mod tests {
+    use super::*;
+    use crate::marked::{EXAMPLE, bytes};
+
+    #[test]
+    fn a_text_is_written_as_it_was_read() {
+        let text = bytes(EXAMPLE);
+        assert_eq!(read(&text).map(|design| design.text()), Ok(text));
+    }
+}
