@@ -48,19 +48,17 @@ pub struct Cheapest {
     pub polarity: u8,
 }
 
-// The terms that some output has, for each of the eight polarities: those so far, with those of one more output, whose block function is g.
-fn with_output(blocks: &[u8; 2048], g: u8, used: [u8; 8]) -> [u8; 8]
-    requires { ⌜ now blocks ≡ blockTable ⌝ }
-    ensures { λ r. ⌜ r ≡ tabulate 8 (λ φ. bitOr (at used φ) (entry g φ)) ⌝ }
+// Adds the terms of one more output, whose block function is g, to those that some output has, for each of the eight polarities.
+fn add_output(blocks: &[u8; 2048], g: u8, used: &mut [u8; 8])
+    requires { ⌜ (now blocks ≡ blockTable) × (length (now used) ≡ 8) ⌝ }
+    ensures { λ _. ⌜ now (used .exit) ≡ tabulate 8 (λ φ. bitOr (at (now (used .entry)) φ) (entry g φ)) ⌝ }
 {
     let row = g as usize * 8;
-    let mut next = used;
     let mut phi: usize = 0;
     while phi < 8 {
-        next[phi] = next[phi] | blocks[row + phi];
+        used[phi] = used[phi] | blocks[row + phi];
         phi += 1;
     }
-    next
 }
 
 // The terms that some output has in block j, for each of the eight polarities, from the block functions.
@@ -71,8 +69,7 @@ pub fn used_terms(blocks: &[u8; 2048], m: usize, r: usize, functions: &[u8], j: 
     let mut used = [0u8; 8];
     let mut o: usize = 0;
     while o < m {
-        let next = with_output(blocks, functions[(o << r) + j], used);
-        used = next;
+        add_output(blocks, functions[(o << r) + j], &mut used);
         o += 1;
     }
     used

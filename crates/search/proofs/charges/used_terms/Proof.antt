@@ -3,6 +3,8 @@ use borrow.Author.Needs.{needs}
 use mathlib.Core.Path.{_≡_, ap, _∙_}
 use Prim.Native.Nat.{ℕ, _-_, _≤_}
 use Rattle.algebra.specs.Bytes.{at, tabulate}
+use lib.ListN.{length}
+use Rattle.algebra.proofs.Bytes.{length-tabulate}
 use Rattle.search.specs.Search.{usedAt}
 use Rattle.search.proofs.charges.Used.{function-at, function-within, used-none, used-next}
 use native.Mathlib.Omega.{arith}
@@ -18,22 +20,22 @@ abbrev μ-loop : tie.MeasureT-loop
 loop-holds : tie.Need-loop-holds Inv-loop μ-loop
 loop-holds c = (search needs, used-none _ _ _)
 
-shl-with-output : tie.Need-shl-with-output Inv-loop μ-loop
-shl-with-output c = search needs
+shl-add-output : tie.Need-shl-add-output Inv-loop μ-loop
+shl-add-output c = search needs
 
-add-with-output : tie.Need-add-with-output Inv-loop μ-loop
-add-with-output c =
+add-add-output : tie.Need-add-add-output Inv-loop μ-loop
+add-add-output c =
     let a = c .before .before .before .args in
     let p = c .before .before .before .pre in
     omega (arith, function-within (a .m) (a .r) (c .before .loop .o) (a .j) _ (p .1) (p .2) (c .loop-test .taken) (p .3) (p .4))
 
-shared-slice-read-with-output : tie.Need-shared-slice-read-with-output Inv-loop μ-loop
-shared-slice-read-with-output c =
+shared-slice-read-add-output : tie.Need-shared-slice-read-add-output Inv-loop μ-loop
+shared-slice-read-add-output c =
     let p = c .before .before .before .before .pre in
     function-within _ _ _ _ _ (p .1) (p .2) (c .before .loop-test .taken) (p .3) (p .4)
 
-with-output-requires : tie.Need-with-output-requires Inv-loop μ-loop
-with-output-requires c κs = c .before .before .before .before .pre .0
+add-output-requires : tie.Need-add-output-requires Inv-loop μ-loop
+add-output-requires c κs = (c .before .before .before .before .before .pre .0, ap length (c .before .before .before .loop .inv .1) ∙ length-tabulate 8 _)
 
 add-o : tie.Need-add-o Inv-loop μ-loop
 add-o c = search needs
@@ -43,11 +45,11 @@ loop-less c = search needs
 
 loop-again : tie.Need-loop-again Inv-loop μ-loop
 loop-again c =
-    let l = c .before .before .before .loop in
-    let a = c .before .before .before .before .before in (
-      omega arith,
-      c .with-output .ensures
-          ∙ used-next _ (l .o) (a .args .j) _ _ _ (function-at (a .args .m) _ _ _ (a .pre .1) (a .pre .2) (c .before .before .loop-test .taken)) (l .inv .1),
+    let l = c .before .before .before .before .loop in
+    let a = c .before .before .before .before .before .before in (
+      omega (arith, c .before .before .before .loop-test .taken),
+      c .add-output .ensures
+          ∙ used-next _ (l .o) (a .args .j) _ _ _ (function-at (a .args .m) _ _ _ (a .pre .1) (a .pre .2) (c .before .before .before .loop-test .taken)) (l .inv .1),
     )
 
 returns : tie.Need-returns Inv-loop μ-loop
@@ -64,10 +66,10 @@ used-terms-spec =
     Inv-loop
     μ-loop
     loop-holds
-    shl-with-output
-    add-with-output
-    shared-slice-read-with-output
-    with-output-requires
+    shl-add-output
+    add-add-output
+    shared-slice-read-add-output
+    add-output-requires
     add-o
     loop-less
     loop-again
