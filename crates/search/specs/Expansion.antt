@@ -2,11 +2,12 @@
 use mathlib.Core.Bool.{Bool, _&&_}
 use mathlib.Core.List.{List}
 use Prim.Native.Nat.{ℕ, _-_, _^_, min}
-use lib.Dec.{leb, eqb}
+use lib.Dec.{leb, ltb, eqb}
 use lib.ListN.{length, replicate}
 use Rattle.algebra.specs.Bytes.{at, tabulate}
 use Rattle.algebra.specs.Calls.{allBelow}
 use Rattle.algebra.specs.Transform.{pick}
+use Rattle.search.specs.Members.{polarity}
 use Rattle.search.specs.Costs.{products, literals}
 use Rattle.search.specs.Answers.{Minimal, answerMixed, answerFixed, answerPolarity, answerCoefficient}
 use Rattle.search.specs.declared.expansion.Expansion.{Expansion}
@@ -46,3 +47,7 @@ searchable n m k table = leb n 8 && (leb m 8 && (leb k 3 && (leb k n && (eqb (le
 -- what the search hands up: the answer's record, and the empty record where there is no such table
 unfoldable pub searched : ℕ → ℕ → ℕ → List ℕ → Expansion
 searched n m k table = pick (searchable n m k table) (answerExpansion n k (at table)) (emptyExpansion k)
+
+-- "Its literals outside M follow i; those in M follow φj": the polarity of the term t, and 0 where the masks are not of n inputs
+unfoldable pub termPolarity : ℕ → (M i : ℕ) → List ℕ → ℕ → ℕ
+termPolarity n M i blocks t = pick (leb n 8 && (ltb M (2 ^ n) && ltb i (2 ^ n))) (polarity n M i (at blocks) t) 0

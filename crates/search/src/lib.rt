@@ -8,5 +8,6 @@ pub mod expansion;
 mod pairs;
 mod planes;
 mod points;
+pub mod polarity;
 mod record;
 pub mod search;

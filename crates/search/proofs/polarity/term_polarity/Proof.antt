@@ -1,0 +1,91 @@
+-- `term_polarity` meets its contract: each early return is one test of `termPolarity`.
+use borrow.Author.Needs.{needs}
+use mathlib.Core.Path.{_≡_, sym, ap, _∙_}
+use Prim.Native.Nat.{ℕ, _+_, _*_, _^_, _%_, _≤_, _<_}
+use borrow.Author.Tests.{le-leb, lt-leb, lt-ltb, le-ltb}
+use Rattle.algebra.specs.Bytes.{at}
+use Rattle.algebra.proofs.Shifts.{one-shifted}
+use Rattle.search.specs.Split.{gather, spread, outside}
+use Rattle.search.specs.Members.{polarity}
+use Rattle.search.specs.Expansion.{termPolarity}
+use Rattle.search.proofs.points.Walks.{gather-small, spread-small}
+use lib.Pow.{pow-mono}
+use native.Mathlib.Omega.{arith}
+use Rattle.search.proofs.polarity.term_polarity.Statement.{statement}
+use Rattle.search.proofs.polarity.term_polarity.Tie as tie
+
+size : (c : tie.Else1) → 1 * 2 ^ c .before .args .n % 2 ^ 64 ≡ 2 ^ c .before .args .n
+size c = one-shifted _ (omega (arith, c .if1 .left))
+
+mixed-lt : (c : tie.Else2) → c .before .before .args .mixed < 2 ^ c .before .before .args .n
+mixed-lt c = omega (arith, c .if2 .left, size (c .before))
+
+fixed-lt : (c : tie.Else3) → c .before .before .before .args .fixed < 2 ^ c .before .before .before .args .n
+fixed-lt c = omega (arith, c .if3 .left, size (c .before .before))
+
+returns : tie.Need-returns
+unfolding termPolarity
+returns c = rw (lt-leb _ 8 (c .if1 .taken))
+
+shl-all : tie.Need-shl-all
+shl-all c = omega (arith, c .if1 .left)
+
+returns-2 : tie.Need-returns-2
+unfolding termPolarity
+returns-2 c =
+    let a = c .before .before .args in
+    let h : 2 ^ a .n ≤ a .mixed = omega (arith, c .if2 .taken, size (c .before)) in
+    rw (le-leb _ 8 (c .before .if1 .left), le-ltb _ _ h)
+
+returns-3 : tie.Need-returns-3
+unfolding termPolarity
+returns-3 c =
+    let a = c .before .before .before .args in
+    let h : 2 ^ a .n ≤ a .fixed = omega (arith, c .if3 .taken, size (c .before .before)) in
+    rw (le-leb _ 8 (c .before .before .if1 .left), lt-ltb _ _ (mixed-lt (c .before)), le-ltb _ _ h)
+
+outside-requires : tie.Need-outside-requires
+outside-requires c κs = (c .before .before .if1 .left, mixed-lt (c .before))
+
+gather-requires : tie.Need-gather-requires
+gather-requires c κs = c .before .before .before .if1 .left
+
+element-copy-out-wide : tie.Need-element-copy-out-wide
+element-copy-out-wide c = omega (arith, c .gather .ensures, gather-small (c .before .before .before .before .before .args .n) (c .before .outside .result) (c .before .before .before .before .before .args .t) (c .before .before .before .before .if1 .left))
+
+wide-requires : tie.Need-wide-requires
+wide-requires c κs = search needs
+
+spread-requires : tie.Need-spread-requires
+spread-requires c κs = search needs
+
+add-result : tie.Need-add-result
+add-result c =
+    let a = c .before .before .before .before .before .before .before .before .args in
+    let size-le : 2 ^ a .n ≤ 256 = pow-mono (c .before .before .before .before .before .before .before .if1 .left) in
+    omega (arith, fixed-lt (c .before .before .before .before .before), c .spread .ensures, spread-small (a .n) (a .mixed) (c .before .wide .result) (c .before .before .before .before .before .before .before .if1 .left))
+
+returns-4 : tie.Need-returns-4
+unfolding termPolarity polarity
+returns-4 c =
+    let a = c .before .before .before .before .before .before .before .before .args in
+    let block : c .before .before .before .gather .result ≡ gather (a .n) (outside (a .n) (a .mixed)) (a .t) = c .before .before .before .gather .ensures ∙ ap (λ (x : ℕ). gather (a .n) x (a .t)) (c .before .before .before .before .outside .ensures) in
+    rw (le-leb _ 8 (c .before .before .before .before .before .before .before .if1 .left), lt-ltb _ _ (mixed-lt (c .before .before .before .before .before .before)), lt-ltb _ _ (fixed-lt (c .before .before .before .before .before)))
+    (ap (λ (x : ℕ). a .fixed + x)
+    (c .spread .ensures ∙ ap (spread (a .n) (a .mixed)) (c .before .wide .ensures ∙ ap (at (a .blocks .now)) block)))
+
+pub term-polarity-spec : {M : Type 1} → statement M
+term-polarity-spec =
+    tie.close
+    (tie.spec
+    returns
+    shl-all
+    returns-2
+    returns-3
+    outside-requires
+    gather-requires
+    element-copy-out-wide
+    wide-requires
+    spread-requires
+    add-result
+    returns-4)
