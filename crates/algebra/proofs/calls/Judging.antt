@@ -63,6 +63,11 @@ below-at bound (x ∷ xs) h t = elim [
   | suc p ↦ below-at bound xs h (and-right (ltb x bound) (allBelow bound xs) t) p
 ]
 
+pub below-from : (bound : ℕ) (bytes : List ℕ) → ((p : ℕ) → at bytes p < bound) → T (allBelow bound bytes)
+unfolding allBelow
+below-from bound [] h = tt
+below-from bound (x ∷ xs) h = and-intro (ltb x bound) (allBelow bound xs) (lt→ltb x bound (h 0)) (below-from bound xs (λ p. h (suc p)))
+
 -- ---- no refusal
 
 pub record Accepted (n m w : ℕ) (given : List ℕ) (lent : ℕ) : Type 0 where

@@ -1,0 +1,30 @@
+-- The listing of an answer. It can be written (`answer-listable`), it gives the table at every point (`answer-given`), and its first line
+-- states the products and the literals that its own lines have (`answer-products`, `answer-literals`).
+use mathlib.Core.Path.{_≡_, sym, _∙_}
+use Prim.Native.Nat.{ℕ, _^_, _≤_, _<_}
+use native.Mathlib.Omega.{arith}
+use Rattle.algebra.specs.Bytes.{at}
+use Rattle.search.specs.Expansion.{Answered}
+use Rattle.search.specs.declared.expansion.Expansion.{Expansion}
+use Rattle.search.proofs.Costs.{literals-lt}
+use Rattle.text.specs.Listing.{listing}
+use Rattle.text.specs.Meaning.{listingValue, listingProducts, listingLiterals, statedProducts, statedLiterals}
+use Rattle.text.specs.Write.{Listable}
+use Rattle.text.proofs.Meaning.{listing-value, listing-products, listing-literals, stated-products, stated-literals}
+
+module _ (n m k : ℕ) (e : Expansion) (f : ℕ → ℕ) (hn : n ≤ 8) (hm : m ≤ 8) (hk : k ≤ 3) (answer : Answered n k f e) where
+  pub answer-listable : Listable n m e
+  answer-listable =
+      record { inputs = hn; outputs = hm; mixed = answer .member .mask; fixed = answer .member .fixed; counted = answer .products-counted }
+
+  few : e .literals < 10000
+  few = omega (arith, answer .literals-counted, literals-lt n (at (e .coefficients)) hn)
+
+  pub answer-given : ((t : ℕ) → t < 2 ^ n → at (e .coefficients) t < 2 ^ m) → (p : ℕ) → p < 2 ^ n → listingValue (listing n m k e) p ≡ f p
+  answer-given small p h = listing-value n m k e small p ∙ answer .gives p h
+
+  pub answer-products : statedProducts (listing n m k e) ≡ listingProducts (listing n m k e)
+  answer-products = stated-products n m k e answer-listable (omega arith) few ∙ answer .products-counted ∙ sym (listing-products n m k e)
+
+  pub answer-literals : statedLiterals (listing n m k e) ≡ listingLiterals (listing n m k e)
+  answer-literals = stated-literals n m k e answer-listable (omega arith) few ∙ answer .literals-counted ∙ sym (listing-literals n m k e)

@@ -1,0 +1,64 @@
+-- `compile_table` meets its contract: the answer of the table is searched and written.
+use borrow.Author.Needs.{needs}
+use mathlib.Core.Path.{_≡_, sym, ap, subst, _∙_}
+use lib.Seq.{length-take-le}
+use Rattle.search.specs.declared.expansion.Expansion.{Expansion}
+use Rattle.text.specs.Write.{Listable, WriteListing}
+use Rattle.text.proofs.compile.Tables.{part-size, part-within, searched-table, table-listable, said, compiled-answer, compiled-bytes}
+use Rattle.text.proofs.compile.compile_table.Statement.{statement}
+use Rattle.text.proofs.compile.compile_table.Tie as tie
+
+shl-size : tie.Need-shl-size
+shl-size c = search needs
+
+slice-aggregate-search : tie.Need-slice-aggregate-search
+slice-aggregate-search c = sym (length-take-le _ _ (part-within _ _ (c .before .before .before .pre)))
+
+search-requires : tie.Need-search-requires
+search-requires c κs = search needs
+
+write-listing-requires : tie.Need-write-listing-requires
+write-listing-requires c κs =
+    let found = c .before .search .ensures ∙ searched-table _ _ (c .before .before .before .before .before .pre) in
+    subst (Listable _ _) (sym found) (table-listable _ _ (c .before .before .before .before .before .pre))
+
+enum-known-length : tie.Need-enum-known-length
+enum-known-length c = search needs
+
+enum-told : tie.Need-enum-told
+enum-told c = search needs
+
+same-length : tie.Need-same-length
+same-length c = search needs
+
+returns : tie.Need-returns
+returns c =
+    let s = c .before .before .before .before .before .before .before .before .before .before .before in
+    let found = c .before .before .before .before .before .before .before .search .ensures ∙ searched-table _ _ (s .pre) in
+    let w = subst (λ (e : Expansion). WriteListing (s .args .sizes .n) (s .args .sizes .m) (s .args .sizes .k) e (s .args .output .now) (c .before .before .before .before .before .write-listing .result) (c .before .before .before .before .before .write-listing .last .1 .1 .1 .1 .0)) found (c .before .before .before .before .before .write-listing .ensures) in
+    (sym (ap said (c .before .length .given .1)) ∙ compiled-answer (s .args .sizes) (s .args .table .now) _ _ _ w, compiled-bytes (s .args .sizes) (s .args .table .now) _ _ _ w)
+
+same-length-2 : tie.Need-same-length-2
+same-length-2 c = search needs
+
+returns-2 : tie.Need-returns-2
+returns-2 c =
+    let s = c .before .before .before .before .before .before .before .before .before .before in
+    let found = c .before .before .before .before .before .before .search .ensures ∙ searched-table _ _ (s .pre) in
+    let w = subst (λ (e : Expansion). WriteListing (s .args .sizes .n) (s .args .sizes .m) (s .args .sizes .k) e (s .args .output .now) (c .before .before .before .before .write-listing .result) (c .before .before .before .before .write-listing .last .1 .1 .1 .1 .0)) found (c .before .before .before .before .write-listing .ensures) in
+    (sym (ap said (c .enum-told .given .1)) ∙ compiled-answer (s .args .sizes) (s .args .table .now) _ _ _ w, compiled-bytes (s .args .sizes) (s .args .table .now) _ _ _ w)
+
+pub compile-table-spec : {M : Type 1} → statement M
+compile-table-spec =
+    tie.close
+    (tie.spec
+    shl-size
+    slice-aggregate-search
+    search-requires
+    write-listing-requires
+    enum-known-length
+    enum-told
+    same-length
+    returns
+    same-length-2
+    returns-2)

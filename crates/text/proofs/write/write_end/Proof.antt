@@ -1,0 +1,27 @@
+-- `write_end` meets its contract: the word and the line's end, one after the other.
+use borrow.Author.Needs.{needs}
+use Rattle.text.specs.Fields.{bytes}
+use Rattle.text.specs.Listing.{tabbed, line}
+use Rattle.text.proofs.Puts.{put-then}
+use Rattle.text.proofs.write.write_end.Statement.{statement}
+use Rattle.text.proofs.write.write_end.Tie as tie
+
+slice-aggregate-word : tie.Need-slice-aggregate-word
+slice-aggregate-word c = search needs
+
+word-requires : tie.Need-word-requires
+word-requires c κs = search needs
+
+byte-requires : tie.Need-byte-requires
+byte-requires c κs = search needs
+
+same-length : tie.Need-same-length
+same-length c = search needs
+
+returns : tie.Need-returns
+unfolding line tabbed bytes
+returns c = put-then (c .before .before .before .before .before .before .word .ensures) (c .before .before .byte .ensures)
+
+pub write-end-spec : {M : Type 1} → statement M
+write-end-spec =
+    tie.close (tie.spec slice-aggregate-word word-requires byte-requires same-length returns)

@@ -1,0 +1,115 @@
+-- `write_listing` meets its contract: the length is that of the listing, and its parts are written one after the other.
+use borrow.Author.Needs.{needs}
+use Prim.Native.Nat.{_+_, _*_, _≤_}
+use lib.ListN.{length}
+use Rattle.text.specs.Listing.{formLine, listing, digitsOf}
+use Rattle.text.specs.Write.{Put}
+use Rattle.text.proofs.Puts.{put-then, put-length}
+use Rattle.text.proofs.Lengths.{digitsOf-le, length-formLine}
+use Rattle.text.proofs.Listings.{numbersOf, length-products, length-stated, products-small, listing-written, listing-short}
+use native.Mathlib.Omega.{arith}
+use Rattle.text.proofs.write.write_listing.Statement.{statement}
+use Rattle.text.proofs.write.write_listing.Tie as tie
+
+-- the listing has room
+room : (c : tie.Else1) → let a = c .before .before .before .before .before .args in 16 + digitsOf (numbersOf (a .n) (a .m) (a .k) (a .e)) + a .e .products * (a .n + a .m + 7) ≤ length (a .out .now)
+room c = omega (arith, c .if1 .left, c .before .before .digits-of .ensures)
+
+slice-aggregate-digits-of : tie.Need-slice-aggregate-digits-of
+slice-aggregate-digits-of c = search needs
+
+digits-of-requires : tie.Need-digits-of-requires
+digits-of-requires c κs = search needs
+
+add-length : tie.Need-add-length
+add-length c =
+    let a = c .before .before .before .args in
+    omega (arith, c .digits-of .ensures, digitsOf-le (numbersOf (a .n) (a .m) (a .k) (a .e)))
+
+add-length-2 : tie.Need-add-length-2
+add-length-2 c = search needs
+
+add-length-3 : tie.Need-add-length-3
+add-length-3 c = search needs
+
+mul-length : tie.Need-mul-length
+mul-length c =
+    let s = c .before .before .before .before in
+    let a = s .args in
+    omega (arith, products-small (a .n) (a .m) (a .e) (s .pre))
+
+add-length-4 : tie.Need-add-length-4
+add-length-4 c =
+    let s = c .before .before .before .before in
+    let a = s .args in
+    omega (arith, c .before .digits-of .ensures, digitsOf-le (numbersOf (a .n) (a .m) (a .k) (a .e)), products-small (a .n) (a .m) (a .e) (s .pre))
+
+returns : tie.Need-returns
+returns c =
+    let s = c .before .before .before .before .before in
+    let a = s .args in
+    listing-short (a .n) (a .m) (a .k) (a .e) _ (omega (arith, c .if1 .taken, c .before .before .digits-of .ensures, length-stated (a .n) (a .m) (a .e) (s .pre) (a .k)))
+
+slice-aggregate-write-form : tie.Need-slice-aggregate-write-form
+slice-aggregate-write-form c = search needs
+
+write-form-requires : tie.Need-write-form-requires
+write-form-requires c κs = search needs
+
+write-terms-requires : tie.Need-write-terms-requires
+unfolding formLine
+write-terms-requires c κs =
+    let p = c .before .before .before .before .before in
+    let r = p .before .before .before .before .before in
+    let s = r .before .before .before .before .before in
+    let a = s .args in
+    let form : Put (a .out .now) 0 (formLine (a .n) (a .m) (a .k) (a .e)) _ _ = p .write-form .ensures in (
+      (s .pre .inputs, s .pre .outputs, s .pre .mixed, s .pre .fixed),
+      omega (arith, room r, form .to, put-length form, length-formLine (a .n) (a .m) (a .k) (a .e), length-products (a .n) (a .m) (a .e) (s .pre)),
+    )
+
+write-end-requires : tie.Need-write-end-requires
+unfolding formLine
+write-end-requires c κs =
+    let t = c .before .before .before in
+    let p = t .before .before .before .before .before .before in
+    let r = p .before .before .before .before .before in
+    let s = r .before .before .before .before .before in
+    let a = s .args in
+    let form : Put (a .out .now) 0 (formLine (a .n) (a .m) (a .k) (a .e)) _ _ = p .write-form .ensures in
+    let terms = t .write-terms .ensures in
+    omega (arith, room r, form .to, put-length form, length-formLine (a .n) (a .m) (a .k) (a .e), terms .to, put-length terms, length-products (a .n) (a .m) (a .e) (s .pre))
+
+same-length : tie.Need-same-length
+same-length c = search needs
+
+returns-2 : tie.Need-returns-2
+unfolding listing formLine
+returns-2 c =
+    let d = c .before .before in
+    let t = d .before .before .before .before in
+    let p = t .before .before .before .before .before .before in
+    let r = p .before .before .before .before .before in
+    let s = r .before .before .before .before .before in
+    let a = s .args in
+    let fits : length (listing (a .n) (a .m) (a .k) (a .e)) ≤ length (a .out .now) = omega (arith, room r, length-stated (a .n) (a .m) (a .e) (s .pre) (a .k)) in
+    listing-written (a .n) (a .m) (a .k) (a .e) _ _ _ fits (put-then (put-then (p .write-form .ensures) (t .write-terms .ensures)) (d .write-end .ensures))
+
+pub write-listing-spec : {M : Type 1} → statement M
+write-listing-spec =
+    tie.close
+    (tie.spec
+    slice-aggregate-digits-of
+    digits-of-requires
+    add-length
+    add-length-2
+    add-length-3
+    mul-length
+    add-length-4
+    returns
+    slice-aggregate-write-form
+    write-form-requires
+    write-terms-requires
+    write-end-requires
+    same-length
+    returns-2)

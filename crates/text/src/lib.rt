@@ -1,0 +1,8 @@
+// The text layer: from a table text to the listing of the answer.
+pub mod compile;
+mod cursor;
+mod fields;
+mod lines;
+pub mod read;
+mod write;
+mod writer;
