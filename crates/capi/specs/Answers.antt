@@ -10,6 +10,9 @@ use Rattle.search.specs.Calls as minimising
 use Rattle.search.specs.Expansion.{answerExpansion}
 use Rattle.search.specs.declared.calls.Minimised.{Minimised}
 use Rattle.search.specs.declared.calls.Minimised.the-variants as minimised
+use Rattle.text.specs.Read as reading
+use Rattle.text.specs.declared.compile.Compiled.{Compiled}
+use Rattle.text.specs.declared.compile.Compiled.the-variants as compiled
 
 -- the answer that "Why a call declines" decides for n, m, w, the given bytes and the length of the buffer to fill
 abbrev pub decided : ℕ → ℕ → ℕ → List ℕ → ℕ → Transformed
@@ -28,3 +31,13 @@ decidedMinimum n m k table coefficients blocks = minimising.answered (minimising
 unfoldable pub minimumNumbers : Minimised → List ℕ
 minimumNumbers (minimised.Found M i products literals) = 0 ∷ 0 ∷ M ∷ i ∷ products ∷ literals ∷ []
 minimumNumbers (minimised.Refused number line) = number ∷ line ∷ 0 ∷ 0 ∷ 0 ∷ 0 ∷ []
+
+-- "returns n, m, k", after the number and the line, all 0 under a refusal
+unfoldable pub readNumbers : reading.Reading → List ℕ
+readNumbers (reading.given sizes table) = 0 ∷ 0 ∷ sizes .n ∷ sizes .m ∷ sizes .k ∷ []
+readNumbers (reading.refused number line) = number ∷ line ∷ 0 ∷ 0 ∷ 0 ∷ []
+
+-- "returns the length", after the number and the line, 0 under a refusal
+unfoldable pub listingNumbers : Compiled → List ℕ
+listingNumbers (compiled.Written length) = 0 ∷ 0 ∷ length ∷ []
+listingNumbers (compiled.Refused number line) = number ∷ line ∷ 0 ∷ []

@@ -1,0 +1,24 @@
+-- `read_numbers` meets its contract, case by case.
+use borrow.Author.Needs.{needs}
+use mathlib.Core.Path.{ap, sym}
+use Rattle.text.specs.Read.{standsFor}
+use Rattle.capi.specs.Answers.{readNumbers}
+use Rattle.capi.proofs.table_text.read_numbers.Statement.{statement}
+use Rattle.capi.proofs.table_text.read_numbers.Tie as tie
+
+enum-known-r : tie.Need-enum-known-r
+enum-known-r c = search needs
+
+enum-known-r-2 : tie.Need-enum-known-r-2
+enum-known-r-2 c = search needs
+
+returns : tie.Need-returns
+unfolding readNumbers standsFor
+returns c table = sym (ap (λ r. readNumbers (standsFor r table)) (c .before .r .given .1))
+
+returns-2 : tie.Need-returns-2
+unfolding readNumbers standsFor
+returns-2 c table = sym (ap (λ r. readNumbers (standsFor r table)) (c .before .r2 .given .1))
+
+pub read-numbers-spec : {M : Type 1} → statement M
+read-numbers-spec = tie.close (tie.spec enum-known-r enum-known-r-2 returns returns-2)

@@ -1,0 +1,50 @@
+// The reading call and the text call. The reading call's answer is five numbers: the refusal's number and its line, n, m and k. The text
+// call's answer is three: the refusal's number and its line, and the listing's length.
+use text::compile::Compiled;
+use text::read::ReadAnswer;
+ghost use mathlib.Core.List.{List};
+ghost use mathlib.Core.Path.{_≡_};
+ghost use Prim.Native.Nat.{ℕ};
+ghost use lib.ListN.{length};
+ghost use Rattle.text.specs.Read.{reading, lent, standsFor, tableAfter};
+ghost use Rattle.text.specs.Compile.{compiled, Compile};
+ghost use Rattle.capi.specs.Answers.{readNumbers, listingNumbers};
+
+// The numbers that stand for the reading call's answer.
+fn read_numbers(r: ReadAnswer) -> [u64; 5]
+    ensures { λ a. ⌜ ((table : List ℕ) → a ≡ readNumbers (standsFor r table)) ⌝ }
+{
+    match r {
+        ReadAnswer::Given(sizes) => [0, 0, sizes.n as u64, sizes.m as u64, sizes.k as u64],
+        ReadAnswer::Refused { number, line } => [number as u64, line as u64, 0, 0, 0],
+    }
+}
+
+// The numbers that stand for the text call's answer.
+fn listing_numbers(r: Compiled) -> [u64; 3]
+    ensures { λ a. ⌜ a ≡ listingNumbers r ⌝ }
+{
+    match r {
+        Compiled::Written { length } => [0, 0, length as u64],
+        Compiled::Refused { number, line } => [number as u64, line as u64, 0],
+    }
+}
+
+// Takes a table text and fills a table of 256 bytes, as `text::read::read_table` does, which judges and refuses.
+#[no_mangle]
+pub extern "C" fn mipaldoz_read(text: &[u8], table: &mut [u8], answer: &mut [u64; 5])
+    ensures bytes { λ _. ⌜ now (table .exit) ≡ tableAfter (lent (reading (now (text .entry))) (length (now (table .entry)))) (now (table .entry)) ⌝ }
+    ensures answer { λ _. ⌜ now (answer .exit) ≡ readNumbers (lent (reading (now (text .entry))) (length (now (table .entry)))) ⌝ }
+{
+    *answer = read_numbers(text::read::read_table(text, table));
+}
+
+// Takes a table text and writes the listing of its answer into the front of `output`, as `text::compile::compile` does, which judges and
+// refuses.
+#[no_mangle]
+pub extern "C" fn mipaldoz_compile(text: &[u8], output: &mut [u8], answer: &mut [u64; 3])
+    ensures bytes { λ _. ⌜ Compile (now (text .entry)) (now (output .entry)) (now (output .exit)) (compiled (reading (now (text .entry))) (length (now (output .entry)))) ⌝ }
+    ensures answer { λ _. ⌜ now (answer .exit) ≡ listingNumbers (compiled (reading (now (text .entry))) (length (now (output .entry)))) ⌝ }
+{
+    *answer = listing_numbers(text::compile::compile(text, output));
+}

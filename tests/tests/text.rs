@@ -1,0 +1,303 @@
+//! The reading call and the text call against the evaluator's own reader, search and writer.
+
+use outside_cases::calls::{self, CompileAnswer, ReadAnswer};
+use outside_cases::class::mixed_sets;
+use outside_cases::evaluator::{Refusal, places};
+use outside_cases::lent::{Lent, answer};
+use outside_cases::marked::{ACCEPTED, EXAMPLE, REFUSED, bytes};
+use outside_cases::seeded::Seeded;
+use outside_cases::seeded::tables::{longest_listing_table, random_table};
+use outside_cases::seeded::texts::{TELLING_BYTES, damaged_text, sound_text};
+use outside_cases::text::listing::Listing;
+use outside_cases::text::{Design, compile, judge_output, judge_read, read};
+
+/// Makes the reading call with margins around every buffer.
+fn run_read(text: &[u8], lent: &[u8]) -> (ReadAnswer, Lent<u8>) {
+    let text = Lent::new(text);
+    let mut table = Lent::new(lent);
+    let answer = answer(|places| calls::read(text.inside(), table.inside_mut(), places));
+    text.check_untouched();
+    table.check_margins();
+    (answer, table)
+}
+
+/// Makes the text call with margins around every buffer.
+fn run_compile(text: &[u8], lent: &[u8]) -> (CompileAnswer, Lent<u8>) {
+    let text = Lent::new(text);
+    let mut output = Lent::new(lent);
+    let answer = answer(|places| calls::compile(text.inside(), output.inside_mut(), places));
+    text.check_untouched();
+    output.check_margins();
+    (answer, output)
+}
+
+/// The reading call on one text, with a lent table of this length.
+fn check_read(seeded: &mut Seeded, text: &[u8], table_length: usize) {
+    let (answer, table) = run_read(text, &seeded.bytes(table_length));
+    let shown = text.escape_ascii();
+    match judge_read(text, table_length) {
+        Ok(Design { n, m, k, table: wanted }) => {
+            assert_eq!(answer, [0, 0, n as u64, m as u64, k as u64], "{shown}");
+            assert_eq!(table.inside()[..places(n)], wanted, "{shown}");
+            assert!(table.inside()[places(n)..].iter().all(|&byte| byte == 0), "{shown}");
+        }
+        Err(Refusal { number, line }) => {
+            assert_eq!(answer, [number, line, 0, 0, 0], "{shown}");
+            table.check_untouched();
+        }
+    }
+}
+
+/// The text call on one text, with an output buffer of this length, against what it should answer.
+fn check_output(
+    seeded: &mut Seeded,
+    text: &[u8],
+    compiled: &Result<Vec<u8>, Refusal>,
+    output_length: usize,
+) {
+    let (answer, output) = run_compile(text, &seeded.bytes(output_length));
+    let shown = text.escape_ascii();
+    let judged = match compiled {
+        Ok(listing) => judge_output(listing, output_length),
+        Err(refusal) => Err(*refusal),
+    };
+    match judged {
+        Ok(listing) => {
+            assert_eq!(answer, [0, 0, listing.len() as u64], "{shown}");
+            let (written, kept) = output.inside().split_at(listing.len());
+            assert_eq!(written.escape_ascii().to_string(), listing.escape_ascii().to_string());
+            assert_eq!(kept, &output.before()[listing.len()..], "{shown}");
+            check_listing(&read(text).expect("a sound text"), written);
+        }
+        Err(Refusal { number, line }) => {
+            assert_eq!(answer, [number, line, 0], "{shown}");
+            output.check_untouched();
+        }
+    }
+}
+
+/// What a listing's own lines say: the design's sizes, its table at every point, true counts, terms that
+/// ascend, and cubes that a member with its M and i has.
+fn check_listing(design: &Design, written: &[u8]) {
+    let listing = Listing::read(written).expect("a sound listing");
+    let Design { n, m, k, ref table } = *design;
+    assert_eq!([listing.n, listing.m, listing.k], [n, m, k]);
+    assert_eq!(listing.stated, listing.counted());
+    let values: Vec<u8> = (0..places(n)).map(|p| listing.value(p)).collect();
+    assert_eq!(values, *table);
+    assert!(listing.products.iter().map(|product| product.term()).is_sorted_by(|a, b| a < b));
+    assert!(mixed_sets(n, k).any(|mixed| mixed == listing.mixed));
+    assert!(listing.follows_its_polarities());
+}
+
+/// Both calls on one text: a table of 256 bytes, and an output buffer that is long enough.
+fn check_text(seeded: &mut Seeded, text: &[u8]) {
+    check_read(seeded, text, 256);
+    let compiled = compile(text);
+    let length = compiled.as_ref().map_or(0, Vec::len) + seeded.below(20);
+    check_output(seeded, text, &compiled, length);
+}
+
+#[test]
+fn marked_texts() {
+    let mut seeded = Seeded::new(41);
+    for (text, listing) in ACCEPTED {
+        let text = bytes(text);
+        check_read(&mut seeded, &text, 256);
+        check_output(&mut seeded, &text, &Ok(bytes(listing)), 6000);
+    }
+    for (text, number, line) in REFUSED {
+        let text = bytes(text);
+        check_read(&mut seeded, &text, 256);
+        check_output(&mut seeded, &text, &Err(Refusal { number, line }), 6000);
+    }
+}
+
+#[test]
+fn small_sound_texts() {
+    let mut seeded = Seeded::new(42);
+    for _ in 0..3000 {
+        let (design, text) = sound_text(&mut seeded, 4);
+        assert_eq!(read(&text), Ok(design));
+        check_text(&mut seeded, &text);
+    }
+}
+
+#[test]
+fn sound_texts_of_every_size() {
+    let mut seeded = Seeded::new(43);
+    for _ in 0..120 {
+        let (_, text) = sound_text(&mut seeded, 8);
+        check_text(&mut seeded, &text);
+    }
+}
+
+/// Every n, m and k field, sound or not, with no point and with one.
+#[test]
+fn every_first_line() {
+    let mut seeded = Seeded::new(44);
+    for (n, m) in (b'0'..=b'9').flat_map(|n| (b'0'..=b'9').map(move |m| (n, m))) {
+        for k in (b'0'..=b'9').chain(*b"-") {
+            let first = [b"table\t", &[n, b'\t', m, b'\t', k][..], b"\n"].concat();
+            let outputs = vec![b'1'; usize::from(m - b'0')];
+            let on = [&b"on\t1\t"[..], &outputs, b"\n"].concat();
+            check_read(&mut seeded, &[&first, &on[..], b"end\n"].concat(), 256);
+            check_read(&mut seeded, &[&first, &b"end\n"[..]].concat(), 256);
+            if n < b'4' {
+                check_text(&mut seeded, &[&first, &on[..], b"end\n"].concat());
+            }
+        }
+    }
+}
+
+#[test]
+fn damaged_texts() {
+    let mut seeded = Seeded::new(45);
+    for round in 0..8000 {
+        let (_, text) = sound_text(&mut seeded, if round % 50 == 0 { 6 } else { 3 });
+        let damaged = damaged_text(&mut seeded, &text);
+        check_text(&mut seeded, &damaged);
+    }
+}
+
+/// Small texts, one with several lines and one with three digits in a point.
+fn small_texts() -> [Vec<u8>; 3] {
+    [EXAMPLE, b"table 3 1 -\non 0 1\non 7 1\nend\n", b"table 8 3 0\non 128 010\nend\n"].map(bytes)
+}
+
+#[test]
+fn cut_at_every_place() {
+    let mut seeded = Seeded::new(46);
+    for text in small_texts() {
+        (0..text.len()).for_each(|length| check_text(&mut seeded, &text[..length]));
+    }
+}
+
+/// Every byte of a small text changed into every other.
+#[test]
+fn every_byte_changed() {
+    let mut seeded = Seeded::new(47);
+    let text = bytes(EXAMPLE);
+    for place in 0..text.len() {
+        for byte in 0..=255 {
+            let mut changed = text.clone();
+            changed[place] = byte;
+            check_text(&mut seeded, &changed);
+        }
+    }
+}
+
+/// A byte dropped, doubled, swapped with the next one, or a telling byte put in, at every place.
+#[test]
+fn every_place_edited() {
+    let mut seeded = Seeded::new(48);
+    for text in small_texts() {
+        for place in 0..text.len() {
+            let (before, after) = text.split_at(place);
+            check_text(&mut seeded, &[before, &after[1..]].concat());
+            check_text(&mut seeded, &[before, &after[..1], after].concat());
+            if let [first, second, rest @ ..] = after {
+                check_text(&mut seeded, &[before, &[*second, *first], rest].concat());
+            }
+            for &byte in TELLING_BYTES {
+                check_text(&mut seeded, &[before, &[byte], after].concat());
+            }
+        }
+    }
+}
+
+/// Refusals with a line of several digits, and lines longer than any sound one.
+#[test]
+fn long_texts() {
+    let mut seeded = Seeded::new(49);
+    let text = Design { n: 8, m: 8, k: 3, table: vec![255; 256] }.text();
+    assert_eq!(text.len(), 4002);
+    for length in (0..text.len()).step_by(61) {
+        check_text(&mut seeded, &text[..length]);
+    }
+    let last = text.strip_suffix(b"end\n").expect("a text ends so");
+    check_text(&mut seeded, &[last, b"on\t256\t11111111\nend\n"].concat());
+    check_text(&mut seeded, &[last, b"on\t255\t11111111\nend\n"].concat());
+    check_text(&mut seeded, &[last, b"on\t254\t1111111\nend\n"].concat());
+    check_text(&mut seeded, &[&text[..], &text].concat());
+    for byte in [0, 9, 10, b'0', b't', 255] {
+        check_text(&mut seeded, &vec![byte; 20_000]);
+        check_text(&mut seeded, &[&b"table\t1\t1\t0\non\t0\t1"[..], &vec![byte; 20_000]].concat());
+        check_text(
+            &mut seeded,
+            &[&b"table\t1\t1\t0\n"[..], &vec![byte; 20_000], b"\nend\n"].concat(),
+        );
+    }
+}
+
+/// Output buffers of every length around the listing's.
+#[test]
+fn output_lengths() {
+    let mut seeded = Seeded::new(50);
+    let texts = ACCEPTED.iter().map(|(text, _)| bytes(text)).filter(|text| text[6] < b'4');
+    for text in texts.collect::<Vec<_>>() {
+        let compiled = compile(&text);
+        let length = compiled.as_ref().map_or(0, Vec::len);
+        (0..=length + 3).for_each(|lent| check_output(&mut seeded, &text, &compiled, lent));
+    }
+    for _ in 0..200 {
+        let (_, text) = sound_text(&mut seeded, 5);
+        let compiled = compile(&text);
+        let length = compiled.as_ref().map_or(0, Vec::len);
+        for lent in [0, 1, length / 2, length - 1, length, length + 1, 2 * length] {
+            check_output(&mut seeded, &text, &compiled, lent);
+        }
+    }
+}
+
+/// A bad text is refused by its own number whatever is lent.
+#[test]
+fn bad_text_and_bad_buffer() {
+    let mut seeded = Seeded::new(51);
+    for (text, number, line) in REFUSED {
+        let text = bytes(text);
+        for length in [0, 1, 255, 257, 300] {
+            check_read(&mut seeded, &text, length);
+            check_output(&mut seeded, &text, &Err(Refusal { number, line }), length % 255);
+        }
+    }
+}
+
+/// Lent tables of another length than 256.
+#[test]
+fn table_lengths() {
+    let mut seeded = Seeded::new(52);
+    for _ in 0..100 {
+        let (design, text) = sound_text(&mut seeded, 8);
+        for length in [0, 1, places(design.n), 255, 256, 257, 300, 512] {
+            check_read(&mut seeded, &text, length);
+        }
+    }
+}
+
+/// The longest listing: all 256 products with eight outputs.
+#[test]
+fn longest_listing() {
+    let mut seeded = Seeded::new(53);
+    for k in 0..=3 {
+        let design = Design { n: 8, m: 8, k, table: longest_listing_table() };
+        let text = design.text();
+        let compiled = compile(&text);
+        assert_eq!(compiled.as_ref().map_or(0, Vec::len), 5916);
+        for length in [0, 5915, 5916, 5917, 8192] {
+            check_output(&mut seeded, &text, &compiled, length);
+        }
+    }
+}
+
+/// Full tables of eight inputs.
+#[test]
+fn full_tables() {
+    let mut seeded = Seeded::new(54);
+    for (k, field) in [(0, "0"), (1, "1"), (1, "-"), (2, "2"), (3, "3")] {
+        for m in [1, 8] {
+            let table = random_table(&mut seeded, 8, m);
+            check_text(&mut seeded, &Design { n: 8, m, k, table }.text_with(field));
+        }
+    }
+}
