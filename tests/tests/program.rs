@@ -1,0 +1,99 @@
+//! The program `rmform`: standard input to standard output.
+
+use outside_cases::marked::{ACCEPTED, EXAMPLE, REFUSED, bytes};
+use outside_cases::program::{JUDGED_BYTES, run};
+use outside_cases::seeded::Seeded;
+use outside_cases::seeded::tables::{longest_listing_table, random_table};
+use outside_cases::seeded::texts::{damaged_text, sound_text};
+use outside_cases::text::{Design, printed};
+use std::thread::sleep;
+use std::time::Duration;
+
+/// Compares what the program writes with what it should write.
+fn check(input: &[u8], wanted: &[u8]) {
+    let written = run(&[input], || ());
+    let shown = |bytes: &[u8]| bytes.escape_ascii().to_string();
+    assert_eq!(shown(&written), shown(wanted), "for {} bytes: {}", input.len(), shown(input));
+}
+
+/// Compares with the evaluator, which is given what the program judges.
+fn check_judged(input: &[u8]) {
+    check(input, &printed(&input[..input.len().min(JUDGED_BYTES)]));
+}
+
+#[test]
+fn accepted_texts() {
+    for (text, listing) in ACCEPTED {
+        check(&bytes(text), &bytes(listing));
+    }
+}
+
+#[test]
+fn refused_texts() {
+    for (text, number, line) in REFUSED {
+        check(&bytes(text), format!("refused\t{number}\t{line}\n").as_bytes());
+    }
+}
+
+#[test]
+fn drawn_texts() {
+    let mut seeded = Seeded::new(61);
+    for round in 0..150 {
+        let (_, text) = sound_text(&mut seeded, if round % 5 == 0 { 8 } else { 4 });
+        check_judged(&text);
+        check_judged(&damaged_text(&mut seeded, &text));
+    }
+}
+
+/// All zero, all one and drawn tables of every size, with every k.
+#[test]
+fn every_size() {
+    let mut seeded = Seeded::new(62);
+    for n in 1..=8usize {
+        for k in 0..=n.min(3) {
+            let m = seeded.within(1, 8);
+            let size = 1 << n;
+            let drawn = random_table(&mut seeded, n, m);
+            for table in [vec![0; size], vec![1; size], drawn] {
+                check_judged(&Design { n, m, k, table }.text());
+            }
+        }
+    }
+}
+
+/// The longest text, and the longest listing.
+#[test]
+fn longest() {
+    let table = longest_listing_table();
+    let text = Design { n: 8, m: 8, k: 3, table }.text();
+    assert_eq!((text.len(), printed(&text).len()), (4002, 5916));
+    check_judged(&text);
+}
+
+/// Inputs of exactly 8,192 bytes, of one more, and of many more, sound up to where they are filled up.
+#[test]
+fn inputs_at_the_limit() {
+    let example = bytes(EXAMPLE);
+    let open = example.strip_suffix(b"end\n").expect("a text ends so");
+    for length in [JUDGED_BYTES - 1, JUDGED_BYTES, JUDGED_BYTES + 1, 10_000, 100_000] {
+        for start in [&b""[..], &example, open, b"table\t9\t1\t0\n", b"table\t1\t1\t0\non\t5\t1\n"]
+        {
+            for byte in [0, b'\n', b'0', 255] {
+                let mut input = start.to_vec();
+                input.resize(length, byte);
+                check_judged(&input);
+            }
+        }
+    }
+}
+
+/// A text that arrives in pieces is judged whole.
+#[test]
+fn input_in_pieces() {
+    let text = bytes(EXAMPLE);
+    for place in [0, 1, 12, 20, text.len() - 1] {
+        let (first, second) = text.split_at(place);
+        let written = run(&[first, second], || sleep(Duration::from_millis(20)));
+        assert_eq!(written, printed(&text), "cut at {place}");
+    }
+}
