@@ -7,9 +7,10 @@ use native.Mathlib.Omega.{arith}
 use lib.Arith.{lt-one}
 use lib.Pow.{pow-pos}
 use lib.Bits.{bitXor, xor-lt, xor-shr, xor-mod, xor-comm}
-use Rattle.algebra.specs.Terms.{bit, holds, value}
+use Rattle.numbers.specs.Bits.{bit}
+use Rattle.algebra.specs.Terms.{holds, value}
 use Rattle.algebra.specs.Coefficients.{xorInside, coefficient}
-use Rattle.algebra.proofs.Xor.{xor-assoc, xor-cancel-r}
+use Rattle.numbers.proofs.Xor.{xor-assoc, xor-cancel-r}
 use Rattle.algebra.proofs.Inside.{inside-none, inside-ext, inside-xor, inside-map, inside-closed, inside-twice, inside-smaller, inside-ignored, inside-missing}
 use Rattle.algebra.proofs.Value.{value-unique}
 

@@ -8,12 +8,14 @@ use native.Mathlib.Omega.{arith}
 use lib.Arith.{lt-one, digits-div, digits-mod, mod-mul}
 use lib.Pow.{pow-pos}
 use lib.Bits.{bitXor, xor-self, differ, xor-zero-r}
-use Rattle.algebra.specs.Sums.{foldBelow, xorBelow}
-use Rattle.algebra.specs.Terms.{bit, inside, only}
+use Rattle.numbers.specs.Sums.{foldBelow, xorBelow}
+use Rattle.numbers.specs.Bits.{bit, inside}
+use Rattle.numbers.specs.Tests.{only}
 use Rattle.algebra.specs.Coefficients.{xorInside}
-use Rattle.algebra.proofs.Xor.{low-lt, xor-cancel-l, xor-digits, bit-zero, bit-suc}
-use Rattle.algebra.proofs.Sums.{fold-ext, fold-map, fold-closed, xor-op, xor-split, below-split}
-use Rattle.algebra.proofs.Terms.{covered, inside-digits, only-map, only-closed, only-xor}
+use Rattle.numbers.proofs.Xor.{low-lt, xor-cancel-l, xor-digits}
+use Rattle.numbers.proofs.Bits.{bit-zero, bit-suc, covered, inside-digits}
+use Rattle.numbers.proofs.Sums.{fold-ext, fold-map, fold-closed, xor-op, xor-split, below-split}
+use Rattle.numbers.proofs.Tests.{only-map, only-closed, only-xor}
 
 -- a function at the even numbers, and at the odd ones
 abbrev pub evens : (ℕ → ℕ) → ℕ → ℕ

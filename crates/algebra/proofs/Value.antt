@@ -7,11 +7,14 @@ use native.Mathlib.Omega.{arith}
 use lib.Bits.{bitXor, xor-zero-r, xor-self}
 use lib.Arith.{lt-one}
 use lib.Dec.{lit<}
-use Rattle.algebra.specs.Sums.{foldBelow, xorBelow}
-use Rattle.algebra.specs.Terms.{inside, holds, only, value}
-use Rattle.algebra.proofs.Xor.{xor-eq}
-use Rattle.algebra.proofs.Sums.{fold-ext, xor-swap, xor-zero, xor-op, xor-split, below-split}
-use Rattle.algebra.proofs.Terms.{lowest, holds-even, holds-odd, only-and-r, only-xor, only-zero, lowest-once}
+use Rattle.numbers.specs.Sums.{foldBelow, xorBelow}
+use Rattle.numbers.specs.Bits.{inside}
+use Rattle.algebra.specs.Terms.{holds, value}
+use Rattle.numbers.specs.Tests.{only}
+use Rattle.numbers.proofs.Xor.{xor-eq}
+use Rattle.numbers.proofs.Sums.{fold-ext, xor-swap, xor-zero, xor-op, xor-split, below-split}
+use Rattle.algebra.proofs.Terms.{lowest, holds-even, holds-odd, lowest-once}
+use Rattle.numbers.proofs.Tests.{only-and-r, only-xor, only-zero}
 
 -- only the coefficients below 2 ^ n count
 pub value-ext : (n : ℕ) (pol c d : ℕ → ℕ) (p : ℕ) → ((t : ℕ) → t < 2 ^ n → c t ≡ d t) → value n pol c p ≡ value n pol d p

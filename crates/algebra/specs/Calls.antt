@@ -5,42 +5,27 @@ use mathlib.Core.Path.{_≡_}
 use Prim.Native.Nat.{ℕ, zero, suc, _^_, _<_}
 use lib.Dec.{eqb, leb, ltb}
 use lib.ListN.{length}
-use Rattle.algebra.specs.Bytes.{at, tabulate}
+use Rattle.numbers.specs.Bytes.{at, tabulate, allBelow}
+use Rattle.numbers.specs.Refusals.{unless, orElse, unlessRefused, tableRefusal}
 use Rattle.algebra.specs.Terms.{value}
 use Rattle.algebra.specs.Coefficients.{coefficient}
 use Rattle.algebra.specs.declared.calls.Transformed.{Transformed}
 use Rattle.algebra.specs.declared.calls.Transformed.the-variants.{Done, Refused}
-
--- every byte is below the bound
-unfoldable pub allBelow : ℕ → List ℕ → Bool
-allBelow bound [] = true
-allBelow bound (x ∷ xs) = ltb x bound && allBelow bound xs
-
--- what follows where the test passes, and the refusal's number where it fails
-abbrev pub unless : Bool → ℕ → ℕ → ℕ
-unless true number next = next
-unless false number next = number
 
 -- "Why a call declines", for the transforms: the number of the first of refusals 2, 3, 7, 8, 9 that applies, and 0 where none does.
 -- 2: n is not 1 to 8; 3: m is not 1 to 8; 7: a polarity w is 2^n or more; 8: a lent buffer has another length than its call states;
 -- 9: a byte of the given table or coefficients has a bit at m or above set.
 unfoldable pub refusal : ℕ → ℕ → ℕ → List ℕ → ℕ → ℕ
 refusal n m w given lent =
-    unless (leb 1 n && leb n 8) 2
-    (unless (leb 1 m && leb m 8) 3
+    orElse (tableRefusal n m)
     (unless (ltb w (2 ^ n)) 7
     (unless (eqb (length given) (2 ^ n) && eqb lent (2 ^ n)) 8
-    (unless (allBelow (2 ^ m) given) 9 0))))
+    (unless (allBelow (2 ^ m) given) 9 0)))
 
 -- the answer that stands for a refusal's number: "0 .. for calls without text" is the line; with no refusal the call is carried out
 unfoldable pub answered : ℕ → Transformed
 answered zero = Done
 answered (suc x) = Refused (suc x) 0
-
--- the filled bytes where there is no refusal, and the bytes as they were under one
-abbrev pub unlessRefused : ℕ → List ℕ → List ℕ → List ℕ
-unlessRefused zero filled before = filled
-unlessRefused (suc x) filled before = before
 
 -- "The forward call takes n, m, w and a table and fills coefficients."
 pub record Forward (n m w : ℕ) (table before after : List ℕ) (r : Transformed) : Type 0 where

@@ -1,8 +1,9 @@
 -- The coefficients of a table in one polarity: equation (5) of document 003.
 use Prim.Native.Nat.{ℕ, _^_}
 use lib.Bits.{bitXor}
-use Rattle.algebra.specs.Sums.{xorBelow}
-use Rattle.algebra.specs.Terms.{inside, only}
+use Rattle.numbers.specs.Sums.{xorBelow}
+use Rattle.numbers.specs.Bits.{inside}
+use Rattle.numbers.specs.Tests.{only}
 
 -- the exclusive OR of g over the numbers below 2 ^ n that lie inside t
 unfoldable pub xorInside : ℕ → (ℕ → ℕ) → ℕ → ℕ

@@ -1,15 +1,12 @@
 -- Document 01, "Points, terms and polarities": a term's truth at a point, and the value of an expansion there.
 -- Points, terms and polarities are numbers; input xi is bit i - 1 of each, so inputs are counted from 0 here.
-use mathlib.Core.Bool.{Bool, true, false}
+use mathlib.Core.Bool.{Bool}
 use mathlib.Core.Path.{_≡_}
-use Prim.Native.Nat.{ℕ, zero, suc, _-_, _/_, _%_, _^_}
-use lib.Bits.{bitAnd, bitXor}
-use lib.Dec.{eqb}
-use Rattle.algebra.specs.Sums.{xorBelow}
-
--- bit i of x: "bit i−1 of p is the value of xi"
-abbrev pub bit : ℕ → ℕ → ℕ
-bit i x = x / 2 ^ i % 2
+use Prim.Native.Nat.{ℕ, zero, suc, _-_, _^_}
+use lib.Bits.{bitXor}
+use Rattle.numbers.specs.Bits.{bit, inside}
+use Rattle.numbers.specs.Sums.{xorBelow}
+use Rattle.numbers.specs.Tests.{only}
 
 -- an input's literal, by the polarity's bit and the input's value: "bit i−1 set means that the literal of xi is complemented"
 unfoldable pub literal : ℕ → ℕ → ℕ
@@ -20,18 +17,9 @@ literal (suc w) x = 1 - x
 unfoldable pub LiteralsTrue : ℕ → ℕ → ℕ → Type 0
 LiteralsTrue t w p = (i : ℕ) → bit i t ≡ 1 → literal (bit i w) (bit i p) ≡ 1
 
--- every bit of q is a bit of t
-unfoldable pub inside : ℕ → ℕ → Bool
-inside q t = eqb (bitAnd q t) q
-
 -- LiteralsTrue as a test on masks: p differs from the polarity w at each input of the term t (proofs/Terms, `holds-words`)
 unfoldable pub holds : ℕ → ℕ → ℕ → Bool
 holds t w p = inside t (bitXor p w)
-
--- c where the test passes, and 0 where it fails
-unfoldable pub only : Bool → ℕ → ℕ
-only true c = c
-only false c = 0
 
 -- Equation (1): "The value at p is the exclusive OR of c[t] over all terms whose literals are all true at p". The polarity may depend
 -- on the term; one polarity w for all is `λ t. w`.

@@ -1,10 +1,11 @@
 // The calls on n, m, w and two lent buffers. Each judges its arguments in document 01's order, refusals 2, 3, 7, 8 and 9, and under a
 // refusal changes no lent byte.
 ghost use mathlib.Core.Path.{_≡_};
-ghost use Prim.Native.Nat.{_^_};
-ghost use Rattle.algebra.specs.Calls.{allBelow, refusal, Forward, Backward};
+ghost use Rattle.algebra.specs.Calls.{refusal, Forward, Backward};
 use crate::transform::coefficients_into;
 use crate::transform::values_into;
+use numbers::refusals::judge_table;
+use numbers::refusals::within_outputs;
 
 // The answer of a transform call: carried out, or declined with document 01's number and line.
 pub enum Transformed {
@@ -12,38 +13,13 @@ pub enum Transformed {
     Refused { number: usize, line: usize },
 }
 
-// Whether no byte has a bit at m or above.
-pub fn within_outputs(m: usize, bytes: &[u8]) -> bool
-    ensures { λ r. ⌜ r ≡ allBelow (2 ^ m) (now (bytes .entry)) ⌝ }
-{
-    let mut seen: u8 = 0;
-    let mut q = 0;
-    while q < bytes.len() {
-        seen = seen | bytes[q];
-        q += 1;
-    }
-    if 8 <= m {
-        return true;
-    }
-    let limit: usize = 1 << m;
-    (seen as usize) < limit
-}
-
 // The number of the first refusal that applies, and 0 where none does; `lent` is the length of the buffer to fill.
 fn first_refusal(n: usize, m: usize, w: usize, given: &[u8], lent: usize) -> usize
     ensures { λ r. ⌜ r ≡ refusal n m w (now (given .entry)) lent ⌝ }
 {
-    if n < 1 {
-        return 2;
-    }
-    if 8 < n {
-        return 2;
-    }
-    if m < 1 {
-        return 3;
-    }
-    if 8 < m {
-        return 3;
+    let sizes = judge_table(n, m);
+    if sizes != 0 {
+        return sizes;
     }
     let size: usize = 1 << n;
     if size <= w {

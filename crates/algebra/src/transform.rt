@@ -5,7 +5,7 @@ ghost use mathlib.Core.Path.{_≡_};
 ghost use Prim.Native.Nat.{ℕ, suc, _+_, _*_, _/_, _%_, _^_, _<_, _≤_};
 ghost use lib.Bits.{bitXor};
 ghost use lib.ListN.{length};
-ghost use Rattle.algebra.specs.Bytes.{at, tabulate};
+ghost use Rattle.numbers.specs.Bytes.{at, tabulate};
 ghost use Rattle.algebra.specs.Coefficients.{xorInside};
 ghost use Rattle.algebra.specs.Transform.{functionAt, RunsJoined, SteppedTo, fits, coefficientBytes, valueBytes};
 ghost use Rattle.algebra.specs.Terms.{value};

@@ -2,7 +2,7 @@
 use mathlib.Core.List.{List, [], _∷_}
 use Prim.Native.Nat.{ℕ}
 use lib.ListN.{length}
-use Rattle.algebra.specs.Bytes.{at}
+use Rattle.numbers.specs.Bytes.{at}
 use Rattle.algebra.specs.Calls.{refusal, answered}
 use Rattle.algebra.specs.declared.calls.Transformed.{Transformed}
 use Rattle.algebra.specs.declared.calls.Transformed.the-variants.{Done, Refused}

@@ -8,17 +8,18 @@ use Prim.Native.Nat.{ℕ, _<_}
 use native.Mathlib.Omega.{arith}
 use lib.Count.{onesIn, ones}
 use lib.Dec.{T, eqb, eqb→eq}
-use Rattle.algebra.specs.Bytes.{at}
-use Rattle.algebra.specs.Sums.{foldBelow}
-use Rattle.algebra.specs.Terms.{inside, only}
+use Rattle.numbers.specs.Bytes.{at}
+use Rattle.numbers.specs.Sums.{foldBelow}
+use Rattle.numbers.specs.Bits.{inside, pack}
+use Rattle.numbers.specs.Tests.{only}
 use Rattle.algebra.specs.Coefficients.{xorInside, coefficient}
-use Rattle.algebra.proofs.Terms.{and-left, and-right}
-use Rattle.search.specs.Split.{putDigit, lowDigit, dropDigit, gather, spread, outside, join}
-use Rattle.search.specs.Costs.{counted, weight, products, literals}
-use Rattle.search.specs.Least.{better, firstLeast, chosen}
-use Rattle.search.specs.Answers.{blockFunction, memberCoefficient, blockCharge, leastPolarity, pairCharge, validPair, leastPair}
-use Rattle.search.specs.Answers.{answerPair, answerMixed, answerFixed, answerPolarity, answerCoefficient}
-use Rattle.search.specs.BlockTable.{pack, entry}
+use Rattle.numbers.proofs.Tests.{and-left, and-right}
+use Rattle.expansions.specs.Split.{putDigit, lowDigit, dropDigit, gather, spread, outside, join}
+use Rattle.expansions.specs.Costs.{counted, weight, products, literals}
+use Rattle.expansions.specs.Least.{better, firstLeast, chosen}
+use Rattle.expansions.specs.Answers.{blockFunction, memberCoefficient, blockCharge, leastPolarity, pairCharge, validPair, leastPair}
+use Rattle.expansions.specs.Answers.{answerPair, answerMixed, answerFixed, answerPolarity, answerCoefficient}
+use Rattle.expansions.specs.BlockTable.{entry}
 use Rattle.search.specs.Designs.{costOf, termsBelow, numbers, Design, states, Holds, markedDesigns, orTable, zeroTable, oneTable, withoutTable, printedTable}
 
 -- ---- the test

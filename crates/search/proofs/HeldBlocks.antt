@@ -8,21 +8,21 @@ use native.Mathlib.Nat.{mul-le-mul}
 use lib.Bits.{bitOr}
 use lib.Count.{onesIn, ones, ones-le}
 use lib.Pow.{pow-mono}
-use Rattle.algebra.specs.Bytes.{at}
+use Rattle.numbers.specs.Bytes.{at}
 use Rattle.algebra.specs.Coefficients.{coefficient}
-use Rattle.algebra.proofs.Sums.{fold-ext}
-use Rattle.search.specs.Answers.{blockFunction, blockCharge, leastPolarity, pairCharge}
-use Rattle.search.specs.BlockTable.{entry, used}
-use Rattle.search.specs.Costs.{weight}
-use Rattle.search.specs.Search.{Sizes, HoldsBlocks, usedAt, usedCharge}
-use Rattle.search.proofs.BlockTable.{blockCharge-byte}
-use Rattle.search.proofs.Costs.{sum-le}
-use Rattle.search.proofs.Counted.{counted-le, weight-le}
-use Rattle.search.proofs.Minimal.{leastPolarity-ext, pairCharge-ext, pairCharge-le}
+use Rattle.numbers.proofs.Sums.{fold-ext}
+use Rattle.expansions.specs.Answers.{blockFunction, blockCharge, leastPolarity, pairCharge}
+use Rattle.expansions.specs.BlockTable.{entry, used}
+use Rattle.expansions.specs.Costs.{weight}
+use Rattle.search.specs.Search.{Limits, HoldsBlocks, usedAt, usedCharge}
+use Rattle.expansions.proofs.BlockTable.{blockCharge-byte}
+use Rattle.expansions.proofs.Costs.{sum-le}
+use Rattle.expansions.proofs.Counted.{counted-le, weight-le}
+use Rattle.expansions.proofs.Minimal.{leastPolarity-ext, pairCharge-ext, pairCharge-le}
 
 -- ---- the charges of a pair, from its block functions
 
-module _ (n m k M i : ℕ) (f : ℕ → ℕ) (functions : List ℕ) (sizes : Sizes n m k) (outputs : (p : ℕ) → p < 2 ^ n → f p < 2 ^ m)
+module _ (n m k M i : ℕ) (f : ℕ → ℕ) (functions : List ℕ) (sizes : Limits n m k) (outputs : (p : ℕ) → p < 2 ^ n → f p < 2 ^ m)
     (mask : M < 2 ^ n) (size : onesIn n M ≡ k) (fixed : i < 2 ^ n) (held : HoldsBlocks n m k M i f functions) where
   held-used : (j φ : ℕ) → j < 2 ^ (n - k) → usedAt m (n - k) (at functions) j φ ≡ used m k φ (blockFunction n k f M i j)
   unfolding usedAt used
@@ -51,7 +51,7 @@ blockCharge-le n k f M i j φ hk h =
     (weight-le (ones j + ones r) n (omega (arith, ones-le (n - k) j h, ones-le k r l))))
 
 -- and so a pair costs less than the charge that stands for no pair, 2 ^ 32 - 1
-pub pairCharge-lt : (n m k : ℕ) (f : ℕ → ℕ) (M i : ℕ) → Sizes n m k → pairCharge n k (blockCharge n k f M i) < 2 ^ 31
+pub pairCharge-lt : (n m k : ℕ) (f : ℕ → ℕ) (M i : ℕ) → Limits n m k → pairCharge n k (blockCharge n k f M i) < 2 ^ 31
 unfolding weight
 pairCharge-lt n m k f M i s =
     let blocks = pairCharge-le n k (2 ^ k * weight n) (blockCharge n k f M i) (λ j φ h l. blockCharge-le n k f M i j φ (s .within) h) in

@@ -1,13 +1,2 @@
-pub mod Split
-pub mod Masks
-pub mod Least
-pub mod Blocks
-pub mod Pack
-pub mod Tables
-pub mod Counted
-pub mod Costs
-pub mod Minimal
-pub mod Answers
-pub mod BlockTable
 pub mod HeldBlocks
 pub mod Designs

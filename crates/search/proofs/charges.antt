@@ -1,4 +1,3 @@
-pub mod Bytes
 pub mod Used
 pub mod Polarities
 pub mod Pairs

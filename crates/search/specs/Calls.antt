@@ -3,11 +3,11 @@ use mathlib.Core.Bool.{_&&_}
 use mathlib.Core.List.{List}
 use mathlib.Core.Path.{_≡_}
 use Prim.Native.Nat.{ℕ, zero, suc, _-_, _^_, _<_}
-use lib.Dec.{eqb, leb}
+use lib.Dec.{eqb}
 use lib.ListN.{length}
-use Rattle.algebra.specs.Bytes.{at, tabulate}
-use Rattle.algebra.specs.Calls.{allBelow, unless, unlessRefused}
-use Rattle.search.specs.Answers.{Minimal, answerPolarity, answerCoefficient}
+use Rattle.numbers.specs.Bytes.{at, tabulate, allBelow}
+use Rattle.numbers.specs.Refusals.{unless, orElse, unlessRefused, sizesRefusal}
+use Rattle.expansions.specs.Answers.{Minimal, answerPolarity, answerCoefficient}
 use Rattle.search.specs.Expansion.{answerExpansion}
 use Rattle.search.specs.declared.expansion.Expansion.{Expansion}
 use Rattle.search.specs.declared.calls.Minimised.{Minimised}
@@ -18,11 +18,9 @@ use Rattle.search.specs.declared.calls.Minimised.the-variants.{Found, Re
 -- than 2^n, 2^n and 2^(n−k); 9: a byte of the given table has a bit at m or above set.
 unfoldable pub refusal : ℕ → ℕ → ℕ → List ℕ → ℕ → ℕ → ℕ
 refusal n m k table coefficients blocks =
-    unless (leb 1 n && leb n 8) 2
-    (unless (leb 1 m && leb m 8) 3
-    (unless (leb k 3 && leb k n) 4
+    orElse (sizesRefusal n m k)
     (unless (eqb (length table) (2 ^ n) && (eqb coefficients (2 ^ n) && eqb blocks (2 ^ (n - k)))) 8
-    (unless (allBelow (2 ^ m) table) 9 0))))
+    (unless (allBelow (2 ^ m) table) 9 0))
 
 -- the answer that stands for a refusal's number: "0 .. for calls without text" is the line; with no refusal the call "returns M, i,
 -- products and literals"

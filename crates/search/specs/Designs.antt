@@ -3,11 +3,11 @@
 use mathlib.Core.List.{List, [], _∷_, _++_}
 use mathlib.Core.Path.{_≡_}
 use Prim.Native.Nat.{ℕ, zero, suc, _^_}
-use Rattle.algebra.specs.Bytes.{at}
+use Rattle.numbers.specs.Bytes.{at}
 use Rattle.algebra.specs.Coefficients.{coefficient}
-use Rattle.search.specs.Costs.{products, literals}
-use Rattle.search.specs.BlockTable.{entry}
-use Rattle.search.specs.Answers.{answerMixed, answerFixed, answerCoefficient}
+use Rattle.expansions.specs.Costs.{products, literals}
+use Rattle.expansions.specs.BlockTable.{entry}
+use Rattle.expansions.specs.Answers.{answerMixed, answerFixed, answerCoefficient}
 
 -- what a design asks
 pub data Asked : Type 0 where

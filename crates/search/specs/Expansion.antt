@@ -1,15 +1,14 @@
 -- Document 01's expansion record: the answer as the search hands it up, and the record with no product.
-use mathlib.Core.Bool.{Bool, _&&_}
+use mathlib.Core.Bool.{Bool, _&&_, cond}
 use mathlib.Core.List.{List}
 use Prim.Native.Nat.{ℕ, _-_, _^_, min}
 use lib.Dec.{leb, ltb, eqb}
 use lib.ListN.{length, replicate}
-use Rattle.algebra.specs.Bytes.{at, tabulate}
-use Rattle.algebra.specs.Calls.{allBelow}
-use Rattle.algebra.specs.Transform.{pick}
-use Rattle.search.specs.Members.{polarity}
-use Rattle.search.specs.Costs.{products, literals}
-use Rattle.search.specs.Answers.{Minimal, answerMixed, answerFixed, answerPolarity, answerCoefficient}
+use Rattle.numbers.specs.Bytes.{at, tabulate, allBelow}
+use Rattle.numbers.specs.Refusals.{sizesRefusal}
+use Rattle.expansions.specs.Members.{polarity}
+use Rattle.expansions.specs.Costs.{products, literals}
+use Rattle.expansions.specs.Answers.{Minimal, answerMixed, answerFixed, answerPolarity, answerCoefficient}
 use Rattle.search.specs.declared.expansion.Expansion.{Expansion}
 
 -- "the search hands up an expansion record that holds the 256 coefficient places, zero from 2^n on", and as many block places
@@ -40,14 +39,14 @@ emptyExpansion k =
       literals = 0;
     }
 
--- sizes that document 01 allows, and the bytes of a table of n inputs and m outputs
+-- n, m and k are none that document 01 refuses, and the bytes are a table of n inputs and m outputs
 unfoldable pub searchable : ℕ → ℕ → ℕ → List ℕ → Bool
-searchable n m k table = leb n 8 && (leb m 8 && (leb k 3 && (leb k n && (eqb (length table) (2 ^ n) && allBelow (2 ^ m) table))))
+searchable n m k table = eqb (sizesRefusal n m k) 0 && (eqb (length table) (2 ^ n) && allBelow (2 ^ m) table)
 
 -- what the search hands up: the answer's record, and the empty record where there is no such table
 unfoldable pub searched : ℕ → ℕ → ℕ → List ℕ → Expansion
-searched n m k table = pick (searchable n m k table) (answerExpansion n k (at table)) (emptyExpansion k)
+searched n m k table = cond (searchable n m k table) (answerExpansion n k (at table)) (emptyExpansion k)
 
 -- "Its literals outside M follow i; those in M follow φj": the polarity of the term t, and 0 where the masks are not of n inputs
 unfoldable pub termPolarity : ℕ → (M i : ℕ) → List ℕ → ℕ → ℕ
-termPolarity n M i blocks t = pick (leb n 8 && (ltb M (2 ^ n) && ltb i (2 ^ n))) (polarity n M i (at blocks) t) 0
+termPolarity n M i blocks t = cond (leb n 8 && (ltb M (2 ^ n) && ltb i (2 ^ n))) (polarity n M i (at blocks) t) 0

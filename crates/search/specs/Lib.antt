@@ -1,10 +1,3 @@
-pub mod Split
-pub mod Members
-pub mod Costs
-pub mod Charges
-pub mod Least
-pub mod Answers
-pub mod BlockTable
 pub mod Expansion
 pub mod Search
 pub mod Calls

@@ -8,20 +8,21 @@ use lib.Bits.{bitOr}
 use lib.Dec.{ltb}
 use lib.Count.{ones, onesIn}
 use lib.ListN.{length}
-use Rattle.algebra.specs.Bytes.{at, tabulate}
-use Rattle.algebra.specs.Sums.{foldBelow}
-use Rattle.algebra.specs.Terms.{bit, only}
-use Rattle.search.specs.Split.{join}
-use Rattle.search.specs.Members.{block, place}
-use Rattle.search.specs.BlockTable.{pack, entry, plane, blockTable}
-use Rattle.search.specs.Charges.{byteCharge}
-use Rattle.search.specs.Least.{firstLeast, Leading}
-use Rattle.search.specs.Answers.{blockFunction, blockCharge, leastPolarity, pairCharge, validPair}
+use Rattle.numbers.specs.Bytes.{at, tabulate}
+use Rattle.numbers.specs.Sums.{foldBelow}
+use Rattle.numbers.specs.Bits.{bit, pack}
+use Rattle.numbers.specs.Tests.{only}
+use Rattle.expansions.specs.Split.{join}
+use Rattle.expansions.specs.Members.{block, place}
+use Rattle.expansions.specs.BlockTable.{entry, plane, blockTable}
+use Rattle.expansions.specs.Charges.{byteCharge}
+use Rattle.expansions.specs.Least.{firstLeast, Leading}
+use Rattle.expansions.specs.Answers.{blockFunction, blockCharge, leastPolarity, pairCharge, validPair}
 use Rattle.search.specs.declared.charges.Cheapest.{Cheapest}
 use Rattle.search.specs.declared.pairs.Leader.{Leader}
 
--- the sizes that document 01 allows
-pub record Sizes (n m k : ℕ) : Type 0 where
+-- the limits within which n, m and k are where the search is carried out
+pub record Limits (n m k : ℕ) : Type 0 where
   pub inputs : n ≤ 8
   pub outputs : m ≤ 8
   pub mixed : k ≤ 3

@@ -2,7 +2,7 @@
 // under the polarity φ, stands at g * 8 + φ. The array is handed out whole and lent from there: an index into the constant itself
 // would lay the array out anew at each read.
 ghost use mathlib.Core.Path.{_≡_};
-ghost use Rattle.search.specs.BlockTable.{blockTable};
+ghost use Rattle.expansions.specs.BlockTable.{blockTable};
 
 const ENTRIES: [u8; 2048] = [
     0,

@@ -3,10 +3,11 @@
 ghost use mathlib.Core.Path.{_≡_};
 ghost use Prim.Native.Nat.{_≤_};
 ghost use lib.ListN.{length};
-ghost use Rattle.algebra.specs.Bytes.{at, tabulate};
+ghost use Rattle.numbers.specs.Bytes.{at, tabulate};
 ghost use Rattle.search.specs.Calls.{refusal, Minimise};
 use crate::search::search;
-use algebra::calls::within_outputs;
+use numbers::refusals::judge_sizes;
+use numbers::refusals::within_outputs;
 
 // The answer of the minimising call: the mixed set M, the fixed polarity i and the counts of the member that it found, or declined with
 // document 01's number and line.
@@ -34,23 +35,9 @@ fn first_refusal(
 ) -> usize
     ensures { λ r. ⌜ r ≡ refusal n m k (now (table .entry)) coefficients blocks ⌝ }
 {
-    if n < 1 {
-        return 2;
-    }
-    if 8 < n {
-        return 2;
-    }
-    if m < 1 {
-        return 3;
-    }
-    if 8 < m {
-        return 3;
-    }
-    if 3 < k {
-        return 4;
-    }
-    if n < k {
-        return 4;
+    let sizes = judge_sizes(n, m, k);
+    if sizes != 0 {
+        return sizes;
     }
     let size: usize = 1 << n;
     if table.len() != size {

@@ -5,9 +5,9 @@ ghost use Prim.Native.Nat.{_*_, _^_, _≤_, _<_};
 ghost use lib.Bits.{bitOr};
 ghost use lib.Count.{ones};
 ghost use lib.ListN.{length};
-ghost use Rattle.algebra.specs.Bytes.{at, tabulate};
-ghost use Rattle.search.specs.BlockTable.{entry, blockTable};
-ghost use Rattle.search.specs.Charges.{byteCharge};
+ghost use Rattle.numbers.specs.Bytes.{at, tabulate};
+ghost use Rattle.expansions.specs.BlockTable.{entry, blockTable};
+ghost use Rattle.expansions.specs.Charges.{byteCharge};
 ghost use Rattle.search.specs.Search.{usedAt, usedCharge, IsCheapest};
 use crate::points::ones_in;
 

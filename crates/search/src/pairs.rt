@@ -4,11 +4,11 @@ ghost use mathlib.Core.Path.{_≡_};
 ghost use Prim.Native.Nat.{ℕ, suc, _+_, _-_, _*_, _^_, _≤_, _<_};
 ghost use lib.Count.{onesIn, ones};
 ghost use lib.ListN.{length};
-ghost use Rattle.algebra.specs.Bytes.{at, tabulate};
-ghost use Rattle.search.specs.BlockTable.{blockTable};
-ghost use Rattle.search.specs.Charges.{byteCharge};
-ghost use Rattle.search.specs.Answers.{pairCharge};
-ghost use Rattle.search.specs.Search.{Sizes, Given, Room, Tried, usedAt, usedCharge, Leads};
+ghost use Rattle.numbers.specs.Bytes.{at, tabulate};
+ghost use Rattle.expansions.specs.BlockTable.{blockTable};
+ghost use Rattle.expansions.specs.Charges.{byteCharge};
+ghost use Rattle.expansions.specs.Answers.{pairCharge};
+ghost use Rattle.search.specs.Search.{Limits, Given, Room, Tried, usedAt, usedCharge, Leads};
 use crate::charges::cheapest_block;
 use crate::planes::expand_planes;
 use crate::planes::lay_out;
@@ -30,7 +30,7 @@ pub fn pair_charge(
     functions: &[u8],
 ) -> u32
     requires { ⌜ (now blocks ≡ blockTable) × (now charges ≡ tabulate 256 byteCharge) ⌝ }
-    requires { ⌜ Sizes n m k ⌝ }
+    requires { ⌜ Limits n m k ⌝ }
     requires { ⌜ length (now functions) ≡ m * 2 ^ (n - k) ⌝ }
     ensures { λ c. ⌜ c ≡ pairCharge n k (λ j φ. usedCharge (ones j) (usedAt m (n - k) (at (now (functions .entry))) j φ)) ⌝ }
 {
@@ -61,7 +61,7 @@ fn try_fixed(
     leader: Leader,
 ) -> Leader
     requires { ⌜ (now blocks ≡ blockTable) × (now charges ≡ tabulate 256 byteCharge) ⌝ }
-    requires { ⌜ Sizes n m k ⌝ }
+    requires { ⌜ Limits n m k ⌝ }
     requires { ⌜ Tried n m k mixed (now table) (now planes) (length (now functions)) ⌝ }
     requires { ⌜ (fixed < 2 ^ n) × Leads n k (at (now table)) (mixed * 2 ^ n + fixed) leader ⌝ }
     ensures { λ l. ⌜ Leads n k (at (now (table .entry))) (mixed * 2 ^ n + suc fixed) l ⌝ }
@@ -95,7 +95,7 @@ fn try_mixed(
     leader: Leader,
 ) -> Leader
     requires { ⌜ (now blocks ≡ blockTable) × (now charges ≡ tabulate 256 byteCharge) ⌝ }
-    requires { ⌜ Sizes n m k ⌝ }
+    requires { ⌜ Limits n m k ⌝ }
     requires { ⌜ Given n m (now table) ⌝ }
     requires { ⌜ Room n m k (length (now places)) (length (now planes)) (length (now functions)) ⌝ }
     requires { ⌜ (mixed < 2 ^ n) × (onesIn n mixed ≡ k) × Leads n k (at (now table)) (mixed * 2 ^ n) leader ⌝ }
@@ -140,7 +140,7 @@ fn try_any(
     leader: Leader,
 ) -> Leader
     requires { ⌜ (now blocks ≡ blockTable) × (now charges ≡ tabulate 256 byteCharge) ⌝ }
-    requires { ⌜ Sizes n m k ⌝ }
+    requires { ⌜ Limits n m k ⌝ }
     requires { ⌜ Given n m (now table) ⌝ }
     requires { ⌜ Room n m k (length (now places)) (length (now planes)) (length (now functions)) ⌝ }
     requires { ⌜ (mixed < 2 ^ n) × Leads n k (at (now table)) (mixed * 2 ^ n) leader ⌝ }
@@ -177,7 +177,7 @@ pub fn first_least(
     functions: &mut [u8],
 ) -> Leader
     requires { ⌜ (now blocks ≡ blockTable) × (now charges ≡ tabulate 256 byteCharge) ⌝ }
-    requires { ⌜ Sizes n m k ⌝ }
+    requires { ⌜ Limits n m k ⌝ }
     requires { ⌜ Given n m (now table) ⌝ }
     requires { ⌜ Room n m k (length (now places)) (length (now planes)) (length (now functions)) ⌝ }
     ensures { λ l. ⌜ Leads n k (at (now (table .entry))) (2 ^ n * 2 ^ n) l ⌝ }

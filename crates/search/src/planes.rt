@@ -3,10 +3,9 @@
 ghost use mathlib.Core.Path.{_≡_};
 ghost use Prim.Native.Nat.{ℕ, _+_, _-_, _*_, _/_, _%_, _^_, _<_, _≤_};
 ghost use lib.ListN.{length};
-ghost use Rattle.algebra.specs.Bytes.{at, tabulate};
-ghost use Rattle.algebra.specs.Terms.{bit};
-ghost use Rattle.search.specs.BlockTable.{pack};
-ghost use Rattle.search.specs.Search.{Sizes, placeByte, planeByte, planesOf, Tried, HoldsBlocks};
+ghost use Rattle.numbers.specs.Bytes.{at, tabulate};
+ghost use Rattle.numbers.specs.Bits.{bit, pack};
+ghost use Rattle.search.specs.Search.{Limits, placeByte, planeByte, planesOf, Tried, HoldsBlocks};
 use crate::points::gather;
 use crate::points::join;
 use crate::points::outside;
@@ -62,7 +61,7 @@ pub fn lay_out(
     places: &mut [u8],
     planes: &mut [u8],
 )
-    requires { ⌜ Sizes n m k ⌝ }
+    requires { ⌜ Limits n m k ⌝ }
     requires { ⌜ (mixed < 2 ^ n) × (length (now table) ≡ 2 ^ n) ⌝ }
     requires { ⌜ (length (now places) ≡ 8 * 2 ^ (n - k)) × (length (now planes) ≡ m * 2 ^ (n - k)) ⌝ }
     ensures { λ _. ⌜ now (planes .exit) ≡ planesOf n m k mixed (now (table .entry)) ⌝ }
@@ -82,7 +81,7 @@ pub fn expand_planes(
     planes: &[u8],
     functions: &mut [u8],
 )
-    requires { ⌜ Sizes n m k ⌝ }
+    requires { ⌜ Limits n m k ⌝ }
     requires { ⌜ Tried n m k mixed (now table) (now planes) (length (now functions)) ⌝ }
     requires { ⌜ fixed < 2 ^ n ⌝ }
     ensures { λ _. ⌜ HoldsBlocks n m k mixed fixed (at (now (table .entry))) (now (functions .exit)) ⌝ }

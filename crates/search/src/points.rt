@@ -3,7 +3,7 @@
 ghost use mathlib.Core.Path.{_≡_};
 ghost use Prim.Native.Nat.{_≤_, _<_, _^_};
 ghost use lib.Count.{onesIn};
-ghost use Rattle.search.specs.Split as Split;
+ghost use Rattle.expansions.specs.Split as Split;
 
 // The number of inputs in the mask.
 pub fn ones_in(n: usize, mask: usize) -> usize

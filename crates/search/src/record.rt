@@ -4,14 +4,15 @@ ghost use Prim.Native.Nat.{ℕ, _+_, _-_, _*_, _^_, _≤_, _<_};
 ghost use lib.Count.{onesIn, ones};
 ghost use lib.Dec.{ltb};
 ghost use lib.ListN.{length};
-ghost use Rattle.algebra.specs.Bytes.{at, tabulate};
-ghost use Rattle.algebra.specs.Terms.{bit, only};
-ghost use Rattle.search.specs.Split as Split;
-ghost use Rattle.search.specs.BlockTable.{pack, entry, blockTable};
-ghost use Rattle.search.specs.Charges.{byteCharge};
-ghost use Rattle.search.specs.Answers.{leastPolarity};
+ghost use Rattle.numbers.specs.Bytes.{at, tabulate};
+ghost use Rattle.numbers.specs.Bits.{bit, pack};
+ghost use Rattle.numbers.specs.Tests.{only};
+ghost use Rattle.expansions.specs.Split as Split;
+ghost use Rattle.expansions.specs.BlockTable.{entry, blockTable};
+ghost use Rattle.expansions.specs.Charges.{byteCharge};
+ghost use Rattle.expansions.specs.Answers.{leastPolarity};
 ghost use Rattle.search.specs.Expansion.{answerExpansion};
-ghost use Rattle.search.specs.Search.{Sizes, Given, Room, usedAt, usedCharge, polarityAt, coefficientAt, Leads};
+ghost use Rattle.search.specs.Search.{Limits, Given, Room, usedAt, usedCharge, polarityAt, coefficientAt, Leads};
 use crate::charges::cheapest_block;
 use crate::expansion::Expansion;
 use crate::pairs::Leader;
@@ -31,7 +32,7 @@ fn polarity_at(
     j: usize,
 ) -> u8
     requires { ⌜ (now blocks ≡ blockTable) × (now charges ≡ tabulate 256 byteCharge) ⌝ }
-    requires { ⌜ Sizes n m k ⌝ }
+    requires { ⌜ Limits n m k ⌝ }
     requires { ⌜ length (now functions) ≡ m * 2 ^ (n - k) ⌝ }
     ensures { λ φ. ⌜ φ ≡ polarityAt n m k (at (now (functions .entry))) j ⌝ }
 {
@@ -54,7 +55,7 @@ fn polarities(
     functions: &[u8],
 ) -> [u8; 256]
     requires { ⌜ (now blocks ≡ blockTable) × (now charges ≡ tabulate 256 byteCharge) ⌝ }
-    requires { ⌜ Sizes n m k ⌝ }
+    requires { ⌜ Limits n m k ⌝ }
     requires { ⌜ length (now functions) ≡ m * 2 ^ (n - k) ⌝ }
     ensures { λ φ. ⌜ φ ≡ tabulate 256 (polarityAt n m k (at (now (functions .entry)))) ⌝ }
 {
@@ -103,7 +104,7 @@ fn coefficient_at(
     t: usize,
 ) -> u8
     requires { ⌜ (now blocks ≡ blockTable) × (mixed < 2 ^ n) × (onesIn n mixed ≡ k) ⌝ }
-    requires { ⌜ Sizes n m k ⌝ }
+    requires { ⌜ Limits n m k ⌝ }
     requires { ⌜ length (now functions) ≡ m * 2 ^ (n - k) ⌝ }
     requires { ⌜ ((j : ℕ) → at (now chosen) j < 8) ⌝ }
     ensures { λ c. ⌜ c ≡ coefficientAt n m k mixed (at (now (functions .entry))) (at (now (chosen .entry))) t ⌝ }
@@ -128,7 +129,7 @@ fn coefficients(
     chosen: &[u8; 256],
 ) -> [u8; 256]
     requires { ⌜ (now blocks ≡ blockTable) × (mixed < 2 ^ n) × (onesIn n mixed ≡ k) ⌝ }
-    requires { ⌜ Sizes n m k ⌝ }
+    requires { ⌜ Limits n m k ⌝ }
     requires { ⌜ length (now functions) ≡ m * 2 ^ (n - k) ⌝ }
     requires { ⌜ ((j : ℕ) → at (now chosen) j < 8) ⌝ }
     ensures { λ c. ⌜ c ≡ tabulate 256 (coefficientAt n m k mixed (at (now (functions .entry))) (at (now (chosen .entry)))) ⌝ }
@@ -156,7 +157,7 @@ pub fn expansion_of(
     leader: Leader,
 ) -> Expansion
     requires { ⌜ (now blocks ≡ blockTable) × (now charges ≡ tabulate 256 byteCharge) ⌝ }
-    requires { ⌜ Sizes n m k ⌝ }
+    requires { ⌜ Limits n m k ⌝ }
     requires { ⌜ Given n m (now table) ⌝ }
     requires { ⌜ Room n m k (length (now places)) (length (now planes)) (length (now functions)) ⌝ }
     requires { ⌜ Leads n k (at (now table)) (2 ^ n * 2 ^ n) leader ⌝ }

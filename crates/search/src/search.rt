@@ -2,17 +2,18 @@
 ghost use mathlib.Core.Path.{_≡_};
 ghost use Prim.Native.Nat.{ℕ, _*_, _-_, _^_, _≤_, _<_};
 ghost use lib.ListN.{length};
-ghost use Rattle.algebra.specs.Bytes.{at, tabulate};
-ghost use Rattle.search.specs.BlockTable.{blockTable};
-ghost use Rattle.search.specs.Charges.{byteCharge};
+ghost use Rattle.numbers.specs.Bytes.{at, tabulate};
+ghost use Rattle.expansions.specs.BlockTable.{blockTable};
+ghost use Rattle.expansions.specs.Charges.{byteCharge};
 ghost use Rattle.search.specs.Expansion.{answerExpansion, searchable, searched};
-ghost use Rattle.search.specs.Search.{Sizes, Given, Room};
+ghost use Rattle.search.specs.Search.{Limits, Given, Room};
 use crate::block_table::block_table;
 use crate::charges::byte_charges;
 use crate::expansion::Expansion;
 use crate::pairs::first_least;
 use crate::record::expansion_of;
-use algebra::calls::within_outputs;
+use numbers::refusals::judge_sizes;
+use numbers::refusals::within_outputs;
 
 // The answer's record, in lent room for the places, the planes and the block functions.
 fn search_within(
@@ -27,7 +28,7 @@ fn search_within(
     functions: &mut [u8],
 ) -> Expansion
     requires { ⌜ (now blocks ≡ blockTable) × (now charges ≡ tabulate 256 byteCharge) ⌝ }
-    requires { ⌜ Sizes n m k ⌝ }
+    requires { ⌜ Limits n m k ⌝ }
     requires { ⌜ Given n m (now table) ⌝ }
     requires { ⌜ Room n m k (length (now places)) (length (now planes)) (length (now functions)) ⌝ }
     ensures { λ e. ⌜ e ≡ answerExpansion n k (at (now (table .entry))) ⌝ }
@@ -49,7 +50,7 @@ fn search_within(
 
 // The record of the answer, in room of its own.
 fn search_allowed(n: usize, m: usize, k: usize, table: &[u8]) -> Expansion
-    requires { ⌜ Sizes n m k ⌝ }
+    requires { ⌜ Limits n m k ⌝ }
     requires { ⌜ Given n m (now table) ⌝ }
     ensures { λ e. ⌜ e ≡ answerExpansion n k (at (now (table .entry))) ⌝ }
 {
@@ -73,20 +74,11 @@ fn search_allowed(n: usize, m: usize, k: usize, table: &[u8]) -> Expansion
     )
 }
 
-// Whether n, m and k are sizes that document 01 allows and the bytes are a table of n inputs and m outputs.
+// Whether n, m and k are none that document 01 refuses and the bytes are a table of n inputs and m outputs.
 fn allowed(n: usize, m: usize, k: usize, table: &[u8]) -> bool
     ensures { λ r. ⌜ r ≡ searchable n m k (now (table .entry)) ⌝ }
 {
-    if Expansion::MOST_INPUTS < n {
-        return false;
-    }
-    if Expansion::MOST_OUTPUTS < m {
-        return false;
-    }
-    if Expansion::MOST_MIXED < k {
-        return false;
-    }
-    if n < k {
+    if judge_sizes(n, m, k) != 0 {
         return false;
     }
     let size: usize = 1 << n;

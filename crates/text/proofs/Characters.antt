@@ -7,9 +7,9 @@ use native.Mathlib.Nat.{not-suc-le-zero, le-of-suc-le-suc}
 use native.Mathlib.Omega.{arith}
 use lib.Dec.{ltb}
 use lib.ListN.{length}
-use Rattle.algebra.specs.Bytes.{at}
-use Rattle.algebra.specs.Terms.{bit}
-use Rattle.algebra.proofs.Bytes.{length-tabulate, at-tabulate}
+use Rattle.numbers.specs.Bytes.{at}
+use Rattle.numbers.specs.Bits.{bit}
+use Rattle.numbers.proofs.Bytes.{length-tabulate, at-tabulate}
 use Rattle.text.specs.Listing.{descending, digitCount, decimal, cubeByte, cube, outputBytes}
 
 -- ---- the highest first

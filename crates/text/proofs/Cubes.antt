@@ -10,13 +10,16 @@ use borrow.Author.Tests.{ltb-true, ltb-false}
 use lib.Count.{ones}
 use lib.Dec.{T, eqb, ltb, eqb→eq}
 use lib.Pow.{pow-mono}
-use Rattle.algebra.specs.Bytes.{tabulate}
-use Rattle.algebra.specs.Sums.{foldBelow, sumBelow}
-use Rattle.algebra.specs.Terms.{bit, literal, LiteralsTrue, holds}
-use Rattle.algebra.proofs.Bytes.{tabulate-ext}
-use Rattle.algebra.proofs.Terms.{same-test, and-intro, and-left, and-right, holds-words}
-use Rattle.algebra.proofs.Xor.{low-lt, bit-zero, bit-suc}
-use Rattle.search.proofs.Pack.{ones-bits}
+use Rattle.numbers.specs.Bytes.{tabulate}
+use Rattle.numbers.specs.Sums.{foldBelow, sumBelow}
+use Rattle.numbers.specs.Bits.{bit}
+use Rattle.algebra.specs.Terms.{literal, LiteralsTrue, holds}
+use Rattle.numbers.proofs.Bytes.{tabulate-ext}
+use Rattle.numbers.proofs.Tests.{same-test, and-intro, and-left, and-right}
+use Rattle.algebra.proofs.Terms.{holds-words}
+use Rattle.numbers.proofs.Xor.{low-lt}
+use Rattle.numbers.proofs.Bits.{bit-zero, bit-suc}
+use Rattle.numbers.proofs.Pack.{ones-bits}
 use Rattle.text.specs.Listing.{descending, digitCount, decimal, cubeByte, cube, outputBytes}
 use Rattle.text.specs.Meaning.{allows, cubeTrue, literalsIn, outputsSaid, numberSaid}
 use Rattle.text.proofs.Characters.{length-cube}

@@ -7,7 +7,7 @@ use Prim.Native.Nat.{ℕ, zero, suc, _≤_, _<_}
 use native.Mathlib.Omega.{arith}
 use borrow.Author.Tests.{eq-eqb, ne-eqb}
 use lib.Dec.{eqb}
-use Rattle.algebra.specs.Bytes.{tabulate}
+use Rattle.numbers.specs.Bytes.{tabulate}
 use Rattle.text.specs.Cursor.{all, parts}
 use Rattle.text.specs.Lines.{fields}
 use Rattle.text.specs.Listing.{tabbed, line, descending}

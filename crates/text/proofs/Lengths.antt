@@ -9,10 +9,10 @@ use native.Mathlib.Numerals.{add-one}
 use native.Mathlib.Omega.{arith}
 use lib.ListN.{length, getD, take, drop, length-append, take-append-drop}
 use lib.Seq.{take-suc, length-take-le}
-use Rattle.algebra.specs.Bytes.{at}
-use Rattle.algebra.specs.Sums.{foldBelow, sumBelow}
-use Rattle.search.specs.Costs.{counted, products}
-use Rattle.search.specs.Members.{polarity}
+use Rattle.numbers.specs.Bytes.{at}
+use Rattle.numbers.specs.Sums.{foldBelow, sumBelow}
+use Rattle.expansions.specs.Costs.{counted, products}
+use Rattle.expansions.specs.Members.{polarity}
 use Rattle.search.specs.declared.expansion.Expansion.{Expansion}
 use Rattle.text.specs.Fields.{bytes}
 use Rattle.text.specs.Listing.{tabbed, line, digitCount, decimal, cube, outputBytes, formLine, termLine, ifProduct, termLines, listing, digitsOf, listingLength}

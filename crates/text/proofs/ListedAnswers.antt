@@ -3,10 +3,10 @@
 use mathlib.Core.Path.{_≡_, sym, _∙_}
 use Prim.Native.Nat.{ℕ, _^_, _≤_, _<_}
 use native.Mathlib.Omega.{arith}
-use Rattle.algebra.specs.Bytes.{at}
+use Rattle.numbers.specs.Bytes.{at}
 use Rattle.search.specs.Expansion.{Answered}
 use Rattle.search.specs.declared.expansion.Expansion.{Expansion}
-use Rattle.search.proofs.Costs.{literals-lt}
+use Rattle.expansions.proofs.Costs.{literals-lt}
 use Rattle.text.specs.Listing.{listing}
 use Rattle.text.specs.Meaning.{listingValue, listingProducts, listingLiterals, statedProducts, statedLiterals}
 use Rattle.text.specs.Write.{Listable}

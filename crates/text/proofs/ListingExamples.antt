@@ -5,10 +5,10 @@ use mathlib.Core.Path.{_≡_, refl}
 use Prim.Native.Nat.{ℕ, _^_}
 use Prim.Native.String.{String}
 use lib.ListN.{set, replicate}
-use Rattle.algebra.specs.Bytes.{tabulate}
-use Rattle.algebra.specs.Terms.{only}
-use Rattle.search.specs.Split.{putDigit, lowDigit, dropDigit, gather, spread, outside}
-use Rattle.search.specs.Members.{polarity}
+use Rattle.numbers.specs.Bytes.{tabulate}
+use Rattle.numbers.specs.Tests.{only}
+use Rattle.expansions.specs.Split.{putDigit, lowDigit, dropDigit, gather, spread, outside}
+use Rattle.expansions.specs.Members.{polarity}
 use Rattle.search.specs.declared.expansion.Expansion.{Expansion}
 use Rattle.text.specs.Cursor.{parts}
 use Rattle.text.specs.Fields.{bytes, same}

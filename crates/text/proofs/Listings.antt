@@ -8,11 +8,11 @@ use native.Mathlib.Omega.{arith}
 use borrow.Author.Tests.{le-leb, lt-leb}
 use lib.ListN.{length}
 use lib.Pow.{pow-mono}
-use Rattle.algebra.specs.Bytes.{at}
-use Rattle.search.specs.Costs.{products}
-use Rattle.search.specs.Members.{polarity}
+use Rattle.numbers.specs.Bytes.{at}
+use Rattle.expansions.specs.Costs.{products}
+use Rattle.expansions.specs.Members.{polarity}
 use Rattle.search.specs.declared.expansion.Expansion.{Expansion}
-use Rattle.search.proofs.Costs.{products-le}
+use Rattle.expansions.proofs.Costs.{products-le}
 use Rattle.text.specs.declared.write.Listed.the-variants.{Length, Short}
 use Rattle.text.specs.Listing.{productLines, listing, digitsOf, listingLength}
 use Rattle.text.specs.Write.{Put, Listable, WriteListing}

@@ -12,20 +12,20 @@ use lib.Count.{onesIn, ones}
 use lib.Dec.{ltb}
 use lib.ListN.{length}
 use lib.Pow.{pow-pos, pow-mono}
-use Rattle.algebra.specs.Bytes.{at}
-use Rattle.algebra.specs.Sums.{foldBelow, sumBelow}
-use Rattle.algebra.proofs.Sums.{fold-ext}
-use Rattle.search.specs.Answers.{memberCoefficient}
-use Rattle.search.specs.Costs.{counted, products, literals}
+use Rattle.numbers.specs.Bytes.{at}
+use Rattle.numbers.specs.Sums.{foldBelow, sumBelow}
+use Rattle.numbers.proofs.Sums.{fold-ext}
+use Rattle.expansions.specs.Answers.{memberCoefficient}
+use Rattle.expansions.specs.Costs.{counted, products, literals}
 use Rattle.search.specs.Expansion.{Answered}
-use Rattle.search.specs.Members.{Member}
+use Rattle.expansions.specs.Members.{Member}
 use Rattle.search.specs.declared.expansion.Expansion.{Expansion}
-use Rattle.search.proofs.Blocks.{member-gives}
-use Rattle.search.proofs.Costs.{products-le}
-use Rattle.search.proofs.Counted.{counted-le, counted-mul}
-use Rattle.search.proofs.Least.{then-le, then-rest}
-use Rattle.search.proofs.Masks.{ones-lowest}
-use Rattle.search.proofs.Split.{gather-zero}
+use Rattle.expansions.proofs.Blocks.{member-gives}
+use Rattle.expansions.proofs.Costs.{products-le}
+use Rattle.expansions.proofs.Counted.{counted-le, counted-mul}
+use Rattle.expansions.proofs.Least.{then-le, then-rest}
+use Rattle.expansions.proofs.Masks.{ones-lowest}
+use Rattle.expansions.proofs.Split.{gather-zero}
 use Rattle.text.specs.Listing.{digitCount, listing, digitsOf, listingLength}
 use Rattle.text.proofs.Characters.{digitCount-in}
 use Rattle.text.proofs.Lengths.{length-listing}

@@ -11,16 +11,18 @@ use lib.Bits.{bitXor, xor-comm, xor-zero-r}
 use lib.Dec.{lit<}
 use lib.ListN.{getD}
 use lib.Pow.{pow-mono}
-use Rattle.algebra.specs.Bytes.{at}
-use Rattle.algebra.specs.Sums.{foldBelow}
-use Rattle.algebra.specs.Terms.{bit, only, holds, value}
-use Rattle.algebra.proofs.Sums.{fold-ext}
-use Rattle.algebra.proofs.Terms.{only-zero}
-use Rattle.algebra.proofs.Xor.{xor-assoc}
-use Rattle.search.specs.Costs.{counted, products, literals}
-use Rattle.search.specs.Members.{polarity}
+use Rattle.numbers.specs.Bytes.{at}
+use Rattle.numbers.specs.Sums.{foldBelow}
+use Rattle.numbers.specs.Bits.{bit}
+use Rattle.numbers.specs.Tests.{only}
+use Rattle.algebra.specs.Terms.{holds, value}
+use Rattle.numbers.proofs.Sums.{fold-ext}
+use Rattle.numbers.proofs.Tests.{only-zero}
+use Rattle.numbers.proofs.Xor.{xor-assoc}
+use Rattle.expansions.specs.Costs.{counted, products, literals}
+use Rattle.expansions.specs.Members.{polarity}
 use Rattle.search.specs.declared.expansion.Expansion.{Expansion}
-use Rattle.search.proofs.Costs.{products-le}
+use Rattle.expansions.proofs.Costs.{products-le}
 use Rattle.text.specs.Cursor.{parts}
 use Rattle.text.specs.Fields.{bytes, same}
 use Rattle.text.specs.Lines.{fields}

@@ -6,9 +6,9 @@ use mathlib.Core.Path.{_≡_}
 use Prim.Native.Nat.{ℕ, _^_, _≤_, _<_}
 use lib.Dec.{leb}
 use lib.ListN.{length, take, drop, replicate}
-use Rattle.algebra.specs.Bytes.{at}
-use Rattle.search.specs.Members.{Member, Gives}
-use Rattle.search.specs.Costs.{products, literals}
+use Rattle.numbers.specs.Bytes.{at}
+use Rattle.expansions.specs.Members.{Member, Gives}
+use Rattle.expansions.specs.Costs.{products, literals}
 use Rattle.search.specs.Expansion.{answerExpansion}
 use Rattle.text.specs.declared.compile.Compiled.{Compiled}
 use Rattle.text.specs.declared.compile.Compiled.the-variants.{Written, Refused}

@@ -3,10 +3,10 @@ use mathlib.Core.Bool.{cond}
 use mathlib.Core.List.{List, [], _∷_, _++_, map}
 use Prim.Native.Nat.{ℕ, zero, suc, _+_, _*_, _/_, _%_, _^_}
 use lib.Dec.{ltb}
-use Rattle.algebra.specs.Bytes.{at, tabulate}
-use Rattle.algebra.specs.Terms.{bit}
-use Rattle.search.specs.Members.{polarity}
-use Rattle.search.specs.Costs.{products}
+use Rattle.numbers.specs.Bytes.{at, tabulate}
+use Rattle.numbers.specs.Bits.{bit}
+use Rattle.expansions.specs.Members.{polarity}
+use Rattle.expansions.specs.Costs.{products}
 use Rattle.search.specs.declared.expansion.Expansion.{Expansion}
 use Rattle.text.specs.Fields.{bytes}
 

@@ -5,7 +5,8 @@ use Prim.Native.Nat.{ℕ, _+_, _-_, _*_}
 use lib.Bits.{bitXor}
 use lib.Dec.{eqb}
 use lib.ListN.{length, getD}
-use Rattle.algebra.specs.Terms.{bit, only}
+use Rattle.numbers.specs.Bits.{bit}
+use Rattle.numbers.specs.Tests.{only}
 use Rattle.text.specs.Cursor.{parts}
 use Rattle.text.specs.Fields.{bytes, same}
 use Rattle.text.specs.Lines.{field}

@@ -6,8 +6,8 @@ use Prim.Native.Nat.{ℕ, _+_, _^_, _≤_, _<_}
 use lib.Dec.{leb}
 use lib.ListN.{length, drop}
 use lib.Seq.{sets}
-use Rattle.algebra.specs.Bytes.{at}
-use Rattle.search.specs.Costs.{products}
+use Rattle.numbers.specs.Bytes.{at}
+use Rattle.expansions.specs.Costs.{products}
 use Rattle.search.specs.declared.expansion.Expansion.{Expansion}
 use Rattle.text.specs.declared.write.Listed.{Listed}
 use Rattle.text.specs.declared.write.Listed.the-variants.{Length, Short}

@@ -8,7 +8,7 @@ ghost use mathlib.Core.Path.{_≡_};
 ghost use mathlib.Core.List.{[], map};
 ghost use Prim.Native.Nat.{_+_, _*_, _^_, _≤_, _<_};
 ghost use lib.ListN.{length};
-ghost use Rattle.algebra.specs.Bytes.{at};
+ghost use Rattle.numbers.specs.Bytes.{at};
 ghost use Rattle.text.specs.Fields.{bytes};
 ghost use Rattle.text.specs.Listing.{tabbed, line, decimal, ifProduct, termLine, productLines, digitsOf};
 ghost use Rattle.text.specs.Write.{Put, Listable, WriteListing};

@@ -3,7 +3,7 @@ ghost use mathlib.Core.Path.{_≡_};
 ghost use mathlib.Core.List.{[], _∷_};
 ghost use Prim.Native.Nat.{_+_, _/_, _%_, _^_, _≤_, _<_};
 ghost use lib.ListN.{length};
-ghost use Rattle.algebra.specs.Terms.{bit};
+ghost use Rattle.numbers.specs.Bits.{bit};
 ghost use Rattle.text.specs.Listing.{digitCount, decimal, cubeByte, cube, outputBytes};
 ghost use Rattle.text.specs.Write.{Put};
 

@@ -1,99 +1,33 @@
--- When a transform call is carried out: a refusal's number of 0 says that every test has passed (`refusal-none`); and the test on all
--- bytes by one exclusive bound on their OR.
-use mathlib.Core.Path.{_≡_, refl, sym, ap, _∙_}
-use mathlib.Core.Bool.{Bool, true, false, _&&_}
-use mathlib.Core.List.{List, [], _∷_}
-use Prim.Native.Nat.{ℕ, zero, suc, _+_, _^_, _≤_, _<_}
-use native.Mathlib.Nat.{not-suc-le-zero, le-of-suc-le-suc}
-use native.Mathlib.Numerals.{add-one}
-use native.Mathlib.Omega.{arith}
-use lib.Bits.{bitOr, or-lt, or-add-and, and-le-l, and-le-r}
-use lib.Dec.{T, leb, ltb, eqb, leb→le, ltb→lt, lt→ltb, eqb→eq}
-use lib.Pow.{pow-pos}
-use borrow.Author.Tests.{lt-ltb}
-use lib.ListN.{length, drop, getD}
-use lib.Seq.{drop-cons, drop-length}
-use Rattle.algebra.specs.Bytes.{at}
-use Rattle.algebra.specs.Calls.{allBelow, unless, refusal}
-use Rattle.algebra.proofs.Terms.{same-test, and-intro, and-left, and-right}
+-- When a transform call is carried out: a refusal's number of 0 says that every test has passed (`refusal-none`).
+use mathlib.Core.Path.{_≡_}
+use mathlib.Core.Bool.{_&&_}
+use mathlib.Core.List.{List}
+use Prim.Native.Nat.{ℕ, _^_, _<_}
+use lib.Dec.{T, ltb, eqb, ltb→lt, eqb→eq}
+use lib.ListN.{length}
+use Rattle.numbers.specs.Bytes.{allBelow}
+use Rattle.numbers.specs.Refusals.{tableRefusal, TableSized}
+use Rattle.numbers.proofs.Tests.{and-left, and-right}
+use Rattle.numbers.proofs.refusals.Judging.{passed, or-else-none, table-none}
+use Rattle.algebra.specs.Calls.{refusal}
 
--- ---- bytes below a bound
-
-or-le : (a b : ℕ) → (a ≤ bitOr a b) × (b ≤ bitOr a b)
-or-le a b = (omega (arith, or-add-and a b, and-le-r a b), omega (arith, or-add-and a b, and-le-l a b))
-
-or-below : (m a b : ℕ) → ltb (bitOr a b) (2 ^ m) ≡ (ltb a (2 ^ m) && ltb b (2 ^ m))
-or-below m a b =
-    same-test (ltb (bitOr a b) (2 ^ m)) (ltb a (2 ^ m) && ltb b (2 ^ m))
-    (λ t.
-    let h = ltb→lt (bitOr a b) (2 ^ m) t in
-    and-intro (ltb a (2 ^ m)) (ltb b (2 ^ m)) (lt→ltb a (2 ^ m) (omega (arith, or-le a b .0))) (lt→ltb b (2 ^ m) (omega (arith, or-le a b .1))))
-    (λ t. lt→ltb (bitOr a b) (2 ^ m) (or-lt m a b (ltb→lt a (2 ^ m) (and-left (ltb a (2 ^ m)) (ltb b (2 ^ m)) t)) (ltb→lt b (2 ^ m) (and-right (ltb a (2 ^ m)) (ltb b (2 ^ m)) t))))
-
-and-assoc : (a b c : Bool) → ((a && b) && c) ≡ (a && (b && c))
-and-assoc true b c = refl
-and-assoc false b c = refl
-
-and-true : (a : Bool) → (a && true) ≡ a
-and-true true = refl
-and-true false = refl
-
--- the OR of the first q bytes, and the bytes after them, tell what all the bytes tell
-abbrev pub Seen : ℕ → List ℕ → ℕ → ℕ → Type 0
-Seen m bytes q seen = (ltb seen (2 ^ m) && allBelow (2 ^ m) (drop q bytes)) ≡ allBelow (2 ^ m) bytes
-
-pub seen-none : (m : ℕ) (bytes : List ℕ) → Seen m bytes 0 0
-seen-none m bytes = ap (λ (b : Bool). b && allBelow (2 ^ m) bytes) (lt-ltb 0 (2 ^ m) (pow-pos m))
-
-pub seen-more : (m : ℕ) (bytes : List ℕ) (q seen : ℕ) → q < length bytes → Seen m bytes q seen → Seen m bytes (q + 1) (bitOr seen (at bytes q))
-unfolding allBelow
-seen-more m bytes q seen h e =
-    rw (add-one, or-below, and-assoc) (sym (ap (λ (l : List ℕ). ltb seen (2 ^ m) && allBelow (2 ^ m) l) (drop-cons bytes q 0 h)) ∙ e)
-
-pub seen-all : (m : ℕ) (bytes : List ℕ) (q seen : ℕ) → q ≡ length bytes → Seen m bytes q seen → ltb seen (2 ^ m) ≡ allBelow (2 ^ m) bytes
-unfolding allBelow
-seen-all m bytes q seen l e =
-    sym (and-true (ltb seen (2 ^ m))) ∙ ap (λ (x : List ℕ). ltb seen (2 ^ m) && allBelow (2 ^ m) x) (sym (ap (λ (i : ℕ). drop i bytes) l ∙ drop-length bytes)) ∙ e
-
-pub below-at : (bound : ℕ) (bytes : List ℕ) → 0 < bound → T (allBelow bound bytes) → (p : ℕ) → at bytes p < bound
-unfolding allBelow
-below-at bound [] h t = λ p. h
-below-at bound (x ∷ xs) h t = elim [
-  | zero ↦ ltb→lt x bound (and-left (ltb x bound) (allBelow bound xs) t)
-  | suc p ↦ below-at bound xs h (and-right (ltb x bound) (allBelow bound xs) t) p
-]
-
-pub below-from : (bound : ℕ) (bytes : List ℕ) → ((p : ℕ) → at bytes p < bound) → T (allBelow bound bytes)
-unfolding allBelow
-below-from bound [] h = tt
-below-from bound (x ∷ xs) h = and-intro (ltb x bound) (allBelow bound xs) (lt→ltb x bound (h 0)) (below-from bound xs (λ p. h (suc p)))
-
--- ---- no refusal
-
+-- every test has passed
 pub record Accepted (n m w : ℕ) (given : List ℕ) (lent : ℕ) : Type 0 where
-  pub inputs : (1 ≤ n) × (n ≤ 8)
-  pub outputs : (1 ≤ m) × (m ≤ 8)
+  pub sizes : TableSized n m
   pub polarity : w < 2 ^ n
   pub given-long : length given ≡ 2 ^ n
   pub lent-long : lent ≡ 2 ^ n
   pub clean : T (allBelow (2 ^ m) given)
 
--- a test that fails gives a number other than 0
-pub passed : (a : Bool) (x rest : ℕ) → unless a (suc x) rest ≡ 0 → T a × (rest ≡ 0)
-passed true x rest e = (tt, e)
-passed false x rest e = absurd (omega arith)
-
 pub refusal-none : (n m w : ℕ) (given : List ℕ) (lent : ℕ) → refusal n m w given lent ≡ 0 → Accepted n m w given lent
 unfolding refusal
 refusal-none n m w given lent e =
-    let a = passed (leb 1 n && leb n 8) 1 _ e in
-    let b = passed (leb 1 m && leb m 8) 2 _ (a .1) in
-    let c = passed (ltb w (2 ^ n)) 6 _ (b .1) in
+    let a = or-else-none (tableRefusal n m) _ e in
+    let c = passed (ltb w (2 ^ n)) 6 _ (a .1) in
     let d = passed (eqb (length given) (2 ^ n) && eqb lent (2 ^ n)) 7 _ (c .1) in
     let f = passed (allBelow (2 ^ m) given) 8 _ (d .1) in
     record {
-      inputs = (leb→le 1 n (and-left (leb 1 n) (leb n 8) (a .0)), leb→le n 8 (and-right (leb 1 n) (leb n 8) (a .0)));
-      outputs = (leb→le 1 m (and-left (leb 1 m) (leb m 8) (b .0)), leb→le m 8 (and-right (leb 1 m) (leb m 8) (b .0)));
+      sizes = table-none n m (a .0);
       polarity = ltb→lt w (2 ^ n) (c .0);
       given-long = eqb→eq (length given) (2 ^ n) (and-left (eqb (length given) (2 ^ n)) (eqb lent (2 ^ n)) (d .0));
       lent-long = eqb→eq lent (2 ^ n) (and-right (eqb (length given) (2 ^ n)) (eqb lent (2 ^ n)) (d .0));

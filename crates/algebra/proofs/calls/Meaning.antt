@@ -8,24 +8,26 @@ use native.Mathlib.Omega.{arith}
 use borrow.Author.Tests.{le-leb, lt-ltb, eq-eqb}
 use lib.ListN.{length}
 use lib.Pow.{pow-pos}
-use Rattle.algebra.specs.Bytes.{at, tabulate}
+use Rattle.numbers.specs.Bytes.{at, tabulate}
 use Rattle.algebra.specs.Terms.{value}
 use Rattle.algebra.specs.Coefficients.{coefficient}
 use Rattle.algebra.specs.Transform.{functionAt, fits, coefficientBytes, valueBytes}
-use Rattle.algebra.specs.Calls.{refusal, answered, unlessRefused, Forward, Backward}
+use Rattle.algebra.specs.Calls.{refusal, answered, Forward, Backward}
 use Rattle.algebra.specs.declared.calls.Transformed.{Transformed}
 use Rattle.algebra.specs.declared.calls.Transformed.the-variants.{Done, Refused}
-use Rattle.algebra.proofs.Bytes.{at-tabulate, tabulate-ext}
+use Rattle.numbers.proofs.Bytes.{at-tabulate, tabulate-ext}
 use Rattle.algebra.proofs.Value.{value-ext}
 use Rattle.algebra.proofs.Coefficients.{value-coefficient, coefficient-value, coefficient-ext, coefficient-lt, value-lt}
-use Rattle.algebra.proofs.calls.Judging.{Accepted, refusal-none, below-at}
+use Rattle.algebra.proofs.calls.Judging.{Accepted, refusal-none}
+use Rattle.numbers.proofs.refusals.Outputs.{below-at}
+use Rattle.numbers.proofs.refusals.Judging.{kept}
 
 -- ---- the transforms' bytes, where the call is carried out
 
 accepted-fits : (n m w : ℕ) (given before : List ℕ) → Accepted n m w given (length before) → fits n w (length given) (length before) ≡ true
 unfolding fits
 accepted-fits n m w given before a =
-    rw (le-leb n 8 (a .inputs .1), lt-ltb w (2 ^ n) (a .polarity), eq-eqb (length given) (length before) (a .given-long ∙ sym (a .lent-long)), a .lent-long, mod-self (2 ^ n))
+    rw (le-leb n 8 (a .sizes .inputs .1), lt-ltb w (2 ^ n) (a .polarity), eq-eqb (length given) (length before) (a .given-long ∙ sym (a .lent-long)), a .lent-long, mod-self (2 ^ n))
 
 -- the one function that the bytes hold
 function-one : (n : ℕ) (bytes : List ℕ) (t q : ℕ) → t < 2 ^ n → functionAt n bytes t q ≡ at bytes q
@@ -90,10 +92,6 @@ answered-refused : (x : ℕ) → (x ≡ 0 → ⊥) → answered x ≡ Refused x 
 unfolding answered
 answered-refused zero h = absurd (h refl)
 answered-refused (suc x) h = refl
-
-pub kept : (x : ℕ) (filled before : List ℕ) → (x ≡ 0 → ⊥) → before ≡ unlessRefused x filled before
-kept zero filled before h = absurd (h refl)
-kept (suc x) filled before h = refl
 
 refused-not-done : {A : Type 0} (x : ℕ) → Refused x 0 ≡ Done → A
 refused-not-done x e = let z : _≡_ {A = ℕ} 0 1 = cc in absurd (omega arith)

@@ -10,14 +10,14 @@ use lib.Dec.{T, leb, ltb, eqb, leb→le, ltb→lt, eqb→eq}
 use lib.Pow.{pow-pos, pow-mono, high}
 use lib.ListN.{length}
 use lib.Bits.{bitXor, xor-lt, xor-block, xor-zero-r, xor-comm}
-use Rattle.algebra.specs.Bytes.{at, tabulate}
+use Rattle.numbers.specs.Bytes.{at, tabulate}
 use Rattle.algebra.specs.Terms.{value}
 use Rattle.algebra.specs.Coefficients.{xorInside, coefficient}
 use Rattle.algebra.specs.Transform.{functionAt, fits, coefficientBytes}
-use Rattle.algebra.proofs.Terms.{and-left, and-right}
+use Rattle.numbers.proofs.Tests.{and-left, and-right}
 use Rattle.algebra.proofs.Inside.{inside-ext}
 use Rattle.algebra.proofs.Coefficients.{value-inside}
-use Rattle.algebra.proofs.Bytes.{length-tabulate, at-tabulate, tabulate-ext}
+use Rattle.numbers.proofs.Bytes.{length-tabulate, at-tabulate, tabulate-ext}
 use Rattle.algebra.proofs.transform.Steps.{multiple-room}
 use Rattle.algebra.proofs.transform.Joining.{multiple-down}
 

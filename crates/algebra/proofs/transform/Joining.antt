@@ -11,13 +11,14 @@ use lib.Arith.{digits-div, digits-mod, mod-mul}
 use lib.Pow.{pow-pos, mod-mod-pow}
 use lib.ListN.{length}
 use lib.Bits.{bitXor, xor-comm}
-use Rattle.algebra.specs.Bytes.{at, tabulate}
-use Rattle.algebra.specs.Terms.{bit}
+use Rattle.numbers.specs.Bytes.{at, tabulate}
+use Rattle.numbers.specs.Bits.{bit}
 use Rattle.algebra.specs.Coefficients.{xorInside}
 use Rattle.algebra.specs.Transform.{functionAt, joined, stepped, steps, SteppedTo}
-use Rattle.algebra.proofs.Xor.{low-lt, bit-zero, bit-suc}
+use Rattle.numbers.proofs.Xor.{low-lt}
+use Rattle.numbers.proofs.Bits.{bit-zero, bit-suc}
 use Rattle.algebra.proofs.Inside.{inside-none, inside-even, inside-odd, inside-ext, inside-xor, evens, odds}
-use Rattle.algebra.proofs.Bytes.{is-table}
+use Rattle.numbers.proofs.Bytes.{is-table}
 
 -- ---- by the lowest input and the rest
 

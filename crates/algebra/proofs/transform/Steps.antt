@@ -12,14 +12,15 @@ use lib.Arith.{digits-div, digits-mod, mod-mul}
 use lib.Pow.{pow-pos, high}
 use lib.ListN.{length, set, length-set}
 use lib.Bits.{bitXor, xor-comm}
-use Rattle.algebra.specs.Bytes.{at, tabulate}
-use Rattle.algebra.specs.Terms.{bit}
+use Rattle.numbers.specs.Bytes.{at, tabulate}
+use Rattle.numbers.specs.Bits.{bit}
 use Rattle.algebra.specs.Coefficients.{xorInside}
 use Rattle.algebra.specs.Transform.{functionAt, joined, stepped, steps, RunsJoined, SteppedTo}
-use Rattle.algebra.proofs.Shifts.{one-shifted}
-use Rattle.algebra.proofs.Xor.{low-lt, bit-suc}
+use Rattle.numbers.proofs.Shifts.{one-shifted}
+use Rattle.numbers.proofs.Xor.{low-lt}
+use Rattle.numbers.proofs.Bits.{bit-suc}
 use Rattle.algebra.proofs.Inside.{inside-none, inside-even, inside-odd, inside-ext, inside-xor, evens, odds}
-use Rattle.algebra.proofs.Bytes.{is-table, at-set, at-set-other}
+use Rattle.numbers.proofs.Bytes.{is-table, at-set, at-set-other}
 
 -- ---- runs
 

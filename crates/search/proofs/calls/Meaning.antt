@@ -6,17 +6,17 @@ use Prim.Native.Nat.{ℕ, zero, suc, _-_, _^_, _<_}
 use native.Mathlib.Omega.{arith}
 use lib.ListN.{length}
 use lib.Pow.{pow-pos}
-use Rattle.algebra.specs.Bytes.{at, tabulate}
-use Rattle.algebra.specs.Calls.{unlessRefused}
-use Rattle.algebra.proofs.Bytes.{tabulate-ext}
-use Rattle.algebra.proofs.calls.Judging.{below-at}
-use Rattle.algebra.proofs.calls.Meaning.{kept}
-use Rattle.search.specs.Answers.{Minimal, answerPolarity, answerCoefficient}
+use Rattle.numbers.specs.Bytes.{at, tabulate}
+use Rattle.numbers.specs.Refusals.{unlessRefused}
+use Rattle.numbers.proofs.Bytes.{tabulate-ext}
+use Rattle.numbers.proofs.refusals.Outputs.{below-at}
+use Rattle.numbers.proofs.refusals.Judging.{kept}
+use Rattle.expansions.specs.Answers.{Minimal, answerPolarity, answerCoefficient}
 use Rattle.search.specs.Expansion.{answerExpansion}
 use Rattle.search.specs.Calls.{refusal, answered, Minimise}
 use Rattle.search.specs.declared.expansion.Expansion.{Expansion}
 use Rattle.search.specs.declared.calls.Minimised.the-variants.{Found, Refused}
-use Rattle.search.proofs.Answers.{answer-minimal, answer-coefficient-lt}
+use Rattle.expansions.proofs.Answers.{answer-minimal, answer-coefficient-lt}
 use Rattle.search.proofs.expansion.Answer.{at-coefficients, at-blocks, expansion-coefficients, expansion-blocks}
 use Rattle.search.proofs.calls.Judging.{Accepted, refusal-none}
 
@@ -30,22 +30,22 @@ module _ (n m k : ℕ) (table c b : List ℕ) (a : Accepted n m k table (length 
   filledBlocks = tabulate (2 ^ (n - k)) (answerPolarity n k (at table))
 
   copied-coefficients : tabulate (length c) (at (answerExpansion n k (at table) .coefficients)) ≡ filledCoefficients
-  copied-coefficients = rw (a .coefficients-long) (tabulate-ext (2 ^ n) _ _ (λ t l. expansion-coefficients n k (at table) (a .bounded .inputs .1) t))
+  copied-coefficients = rw (a .coefficients-long) (tabulate-ext (2 ^ n) _ _ (λ t l. expansion-coefficients n k (at table) (a .sized .inputs .1) t))
 
   copied-blocks : tabulate (length b) (at (answerExpansion n k (at table) .blocks)) ≡ filledBlocks
-  copied-blocks = rw (a .blocks-long) (tabulate-ext (2 ^ (n - k)) _ _ (λ j l. expansion-blocks n k (at table) (a .bounded .inputs .1) j))
+  copied-blocks = rw (a .blocks-long) (tabulate-ext (2 ^ (n - k)) _ _ (λ j l. expansion-blocks n k (at table) (a .sized .inputs .1) j))
 
   filled-minimal : Minimal n k (at table) (answerExpansion n k (at table) .mixed) (answerExpansion n k (at table) .fixed) (at filledBlocks) (at filledCoefficients)
       (answerExpansion n k (at table) .products) (answerExpansion n k (at table) .literals)
   unfolding answerExpansion
   filled-minimal =
       rw (at-coefficients n k (at table) (2 ^ n) (omega arith), at-blocks n k (at table) (2 ^ (n - k)) (omega arith))
-      (answer-minimal n k (at table) (a .bounded .inputs .1) (a .bounded .mixed .1))
+      (answer-minimal n k (at table) (a .sized .inputs .1) (a .sized .mixed .1))
 
   filled-outputs : (t : ℕ) → at filledCoefficients t < 2 ^ m
   filled-outputs t =
       rw (ap (λ (g : ℕ → ℕ). g t) (at-coefficients n k (at table) (2 ^ n) (omega arith)))
-      (answer-coefficient-lt n k (at table) (a .bounded .mixed .1) m (λ p l. below-at (2 ^ m) table (pow-pos m) (a .clean) p) t)
+      (answer-coefficient-lt n k (at table) (a .sized .mixed .1) m (λ p l. below-at (2 ^ m) table (pow-pos m) (a .clean) p) t)
 
 pub minimise-found : (n m k : ℕ) (table c c′ b b′ : List ℕ) (e : Expansion) → refusal n m k table (length c) (length b) ≡ 0
     → e ≡ answerExpansion n k (at table) → c′ ≡ tabulate (length c) (at (e .coefficients)) → b′ ≡ tabulate (length b) (at (e .blocks))

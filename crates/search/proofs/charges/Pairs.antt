@@ -6,34 +6,34 @@ use Prim.Native.Nat.{ℕ, _+_, _-_, _*_, _%_, _^_, _≤_, _<_}
 use native.Mathlib.Numerals.{add-one}
 use native.Mathlib.Omega.{arith}
 use lib.Pow.{pow-mono}
-use Rattle.algebra.specs.Bytes.{at}
-use Rattle.algebra.specs.Sums.{foldBelow, sumBelow}
-use Rattle.algebra.proofs.Shifts.{one-shifted}
-use Rattle.search.specs.Answers.{leastPolarity, pairCharge}
-use Rattle.search.specs.Costs.{weight}
-use Rattle.search.specs.Search.{Sizes, IsCheapest}
+use Rattle.numbers.specs.Bytes.{at}
+use Rattle.numbers.specs.Sums.{foldBelow, sumBelow}
+use Rattle.numbers.proofs.Shifts.{one-shifted}
+use Rattle.expansions.specs.Answers.{leastPolarity, pairCharge}
+use Rattle.expansions.specs.Costs.{weight}
+use Rattle.search.specs.Search.{Limits, IsCheapest}
 use Rattle.search.specs.declared.charges.Cheapest.{Cheapest}
-use Rattle.search.proofs.Costs.{sum-le}
-use Rattle.search.proofs.Minimal.{polarity-first}
+use Rattle.expansions.proofs.Costs.{sum-le}
+use Rattle.expansions.proofs.Minimal.{polarity-first}
 use Rattle.search.proofs.charges.Used.{chargeFrom, chargeFrom-le}
 
 -- what block j costs under its first least polarity
 abbrev pub leastFrom : (n m k : ℕ) → List ℕ → ℕ → ℕ
 leastFrom n m k functions j = chargeFrom m (n - k) (at functions) j (leastPolarity k (chargeFrom m (n - k) (at functions) j))
 
-leastFrom-le : (n m k : ℕ) (functions : List ℕ) (j : ℕ) → Sizes n m k → j < 2 ^ (n - k) → leastFrom n m k functions j ≤ 8 * weight 11
+leastFrom-le : (n m k : ℕ) (functions : List ℕ) (j : ℕ) → Limits n m k → j < 2 ^ (n - k) → leastFrom n m k functions j ≤ 8 * weight 11
 leastFrom-le n m k functions j s h =
     let eight : 2 ^ k ≤ 2 ^ 3 = pow-mono (s .mixed) in
     chargeFrom-le m (n - k) (at functions) j _ (omega (arith, s .inputs)) h (omega (arith, polarity-first k (chargeFrom m (n - k) (at functions) j) .below))
 
 -- the blocks below j have been passed
 pub record Summed (n m k : ℕ) (functions : List ℕ) (size sum j : ℕ) : Type 0 where
-  pub sizes : Sizes n m k
+  pub sizes : Limits n m k
   pub all : size ≡ 2 ^ (n - k)
   pub within : j ≤ size
   pub total : sum ≡ sumBelow j (leastFrom n m k functions)
 
-pub summed-none : (n m k : ℕ) (functions : List ℕ) → Sizes n m k → Summed n m k functions (1 * 2 ^ (n - k) % 2 ^ 64) 0 0
+pub summed-none : (n m k : ℕ) (functions : List ℕ) → Limits n m k → Summed n m k functions (1 * 2 ^ (n - k) % 2 ^ 64) 0 0
 unfolding foldBelow
 summed-none n m k functions s =
     record { sizes = s; all = one-shifted (n - k) (omega (arith, s .inputs)); within = omega arith; total = refl }

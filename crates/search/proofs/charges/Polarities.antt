@@ -9,18 +9,18 @@ use native.Mathlib.Numerals.{add-one}
 use native.Mathlib.Omega.{arith}
 use lib.Count.{onesIn, ones-le}
 use lib.Pow.{pow-pos, pow-mono}
-use Rattle.algebra.specs.Bytes.{at, tabulate}
-use Rattle.algebra.proofs.Bytes.{at-tabulate}
-use Rattle.algebra.proofs.Shifts.{one-shifted}
-use Rattle.search.specs.Answers.{leastPolarity}
-use Rattle.search.specs.Charges.{byteCharge}
-use Rattle.search.specs.Costs.{weight}
-use Rattle.search.specs.Least.{firstLeast, Leading}
+use Rattle.numbers.specs.Bytes.{at, tabulate}
+use Rattle.numbers.proofs.Bytes.{at-tabulate}
+use Rattle.numbers.proofs.Shifts.{one-shifted}
+use Rattle.expansions.specs.Answers.{leastPolarity}
+use Rattle.expansions.specs.Charges.{byteCharge}
+use Rattle.expansions.specs.Costs.{weight}
+use Rattle.expansions.specs.Least.{firstLeast, Leading}
 use Rattle.search.specs.Search.{usedAt, usedCharge, IsCheapest}
 use Rattle.search.specs.declared.charges.Cheapest.{Cheapest}
-use Rattle.search.proofs.Least.{leading-take, leading-keep, leading-chosen}
-use Rattle.search.proofs.Minimal.{polarity-first, leastPolarity-ext}
-use Rattle.search.proofs.Pack.{onesIn-ones}
+use Rattle.expansions.proofs.Least.{leading-take, leading-keep, leading-chosen}
+use Rattle.expansions.proofs.Minimal.{polarity-first, leastPolarity-ext}
+use Rattle.numbers.proofs.Pack.{onesIn-ones}
 use Rattle.search.proofs.charges.Used.{chargeFrom, usedCharge-shift, usedCharge-le}
 
 -- what the block costs under each polarity, by the terms used under it

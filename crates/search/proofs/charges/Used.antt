@@ -11,15 +11,15 @@ use lib.Bits.{bitOr}
 use lib.Count.{ones, ones-le}
 use lib.ListN.{replicate}
 use lib.Pow.{shl-exact}
-use Rattle.algebra.specs.Bytes.{at, tabulate}
-use Rattle.algebra.specs.Sums.{foldBelow}
-use Rattle.algebra.proofs.Bytes.{at-tabulate, tabulate-ext}
-use Rattle.search.specs.BlockTable.{entry}
-use Rattle.search.specs.Charges.{byteCharge}
-use Rattle.search.specs.Costs.{weight}
+use Rattle.numbers.specs.Bytes.{at, tabulate}
+use Rattle.numbers.specs.Sums.{foldBelow}
+use Rattle.numbers.proofs.Bytes.{at-tabulate, tabulate-ext}
+use Rattle.expansions.specs.BlockTable.{entry}
+use Rattle.expansions.specs.Charges.{byteCharge}
+use Rattle.expansions.specs.Costs.{weight}
 use Rattle.search.specs.Search.{usedAt, usedCharge}
-use Rattle.search.proofs.BlockTable.{entries-lt}
-use Rattle.search.proofs.charges.Bytes.{byteCharge-le, byteCharge-terms}
+use Rattle.expansions.proofs.BlockTable.{entries-lt}
+use Rattle.expansions.proofs.Charges.{byteCharge-le, byteCharge-terms}
 
 -- ---- where the block functions lie
 

@@ -5,12 +5,12 @@ use Prim.Native.Nat.{ℕ, _-_, _^_, _≤_, _<_}
 use native.Mathlib.Nat.{mul-le-mul}
 use native.Mathlib.Omega.{arith}
 use lib.Pow.{pow-mono}
-use Rattle.algebra.specs.Bytes.{at, tabulate}
-use Rattle.search.specs.Answers.{answerPolarity, answerCoefficient}
+use Rattle.numbers.specs.Bytes.{at, tabulate}
+use Rattle.expansions.specs.Answers.{answerPolarity, answerCoefficient}
 use Rattle.search.specs.Expansion.{answerExpansion, Answered}
-use Rattle.search.proofs.Tables.{at-whole}
-use Rattle.search.proofs.Costs.{products-le, literals-le}
-use Rattle.search.proofs.Answers.{answer-coefficient-zero, answer-polarity-zero, answer-member, answer-minimal, answer-ext, answer-coefficient-lt, answer-polarity-lt}
+use Rattle.numbers.proofs.Tables.{at-whole}
+use Rattle.expansions.proofs.Costs.{products-le, literals-le}
+use Rattle.expansions.proofs.Answers.{answer-coefficient-zero, answer-polarity-zero, answer-member, answer-minimal, answer-ext, answer-coefficient-lt, answer-polarity-lt}
 
 -- ---- the answer's places, in a table that holds all that are not 0
 

@@ -11,12 +11,12 @@ use lib.Count.{onesIn}
 use lib.Dec.{eqb}
 use lib.Pow.{high, low, shl-exact, pow-mono}
 use lib.Arith.{digits-lt}
-use Rattle.search.specs.Least.{firstLeast}
-use Rattle.search.specs.Answers.{validPair, pairCharge, blockCharge}
+use Rattle.expansions.specs.Least.{firstLeast}
+use Rattle.expansions.specs.Answers.{validPair, pairCharge, blockCharge}
 use Rattle.search.specs.Search.{Leads, pairValid, pairCost}
 use Rattle.search.specs.declared.pairs.Leader.{Leader}
-use Rattle.search.proofs.Least.{leading-skip, leading-take, leading-keep}
-use Rattle.search.proofs.Masks.{valid-mask}
+use Rattle.expansions.proofs.Least.{leading-skip, leading-take, leading-keep}
+use Rattle.expansions.proofs.Masks.{valid-mask}
 
 pub leads-none : (n k : ℕ) (f : ℕ → ℕ) → Leads n k f 0 (record { charge = 4294967295; pair = 0 })
 unfolding firstLeast

@@ -10,17 +10,17 @@ use borrow.Author.Tests.{le-leb, lt-ltb, eq-eqb}
 use lib.Arith.{digits-lt, digits-div, digits-mod}
 use lib.Count.{onesIn}
 use lib.ListN.{length}
-use Rattle.algebra.specs.Bytes.{at}
+use Rattle.numbers.specs.Bytes.{at}
 use Rattle.algebra.specs.Coefficients.{coefficient}
 use Rattle.algebra.specs.Transform.{functionAt, fits, coefficientBytes}
-use Rattle.algebra.proofs.Bytes.{length-tabulate, at-tabulate}
+use Rattle.numbers.proofs.Bytes.{length-tabulate, at-tabulate}
 use Rattle.algebra.proofs.Coefficients.{coefficient-ext}
-use Rattle.search.specs.Split.{gather, outside, join}
-use Rattle.search.specs.BlockTable.{plane}
-use Rattle.search.specs.Answers.{blockFunction}
-use Rattle.search.specs.Search.{Sizes, Tried, HoldsBlocks}
-use Rattle.search.proofs.Split.{ones-others, gather-lt}
-use Rattle.search.proofs.BlockTable.{plane-coefficient}
+use Rattle.expansions.specs.Split.{gather, outside, join}
+use Rattle.expansions.specs.BlockTable.{plane}
+use Rattle.expansions.specs.Answers.{blockFunction}
+use Rattle.search.specs.Search.{Limits, Tried, HoldsBlocks}
+use Rattle.expansions.proofs.Split.{ones-others, gather-lt}
+use Rattle.expansions.proofs.BlockTable.{plane-coefficient}
 use Rattle.search.proofs.planes.Filling.{planes-plane}
 
 -- ---- the transform of m functions of r inputs
@@ -51,7 +51,7 @@ module _ (r w m : ℕ) (given before : List ℕ)
 pub fixed-lt : (n k M i : ℕ) → onesIn n M ≡ k → gather n (outside n M) i < 2 ^ (n - k)
 fixed-lt n k M i e = rw (← (ones-others n k M e)) (gather-lt n (outside n M) i)
 
-pub planes-expanded : (n m k M i w : ℕ) (table planes before : List ℕ) → Sizes n m k → Tried n m k M table planes (length before)
+pub planes-expanded : (n m k M i w : ℕ) (table planes before : List ℕ) → Limits n m k → Tried n m k M table planes (length before)
     → w ≡ gather n (outside n M) i → HoldsBlocks n m k M i (at table) (coefficientBytes (n - k) w planes before)
 unfolding blockFunction
 planes-expanded n m k M i w table planes before sizes t e =

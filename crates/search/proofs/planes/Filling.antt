@@ -9,15 +9,15 @@ use lib.Arith.{digits-lt, digits-div, digits-mod}
 use lib.Bits.{bitAnd, and-mask}
 use lib.ListN.{length}
 use lib.Pow.{pow-pos}
-use Rattle.algebra.specs.Bytes.{at, tabulate}
-use Rattle.algebra.specs.Terms.{bit}
-use Rattle.algebra.proofs.Bytes.{length-tabulate, at-tabulate}
-use Rattle.algebra.proofs.Shifts.{one-shifted}
-use Rattle.search.specs.Split.{join}
-use Rattle.search.specs.BlockTable.{pack, plane}
+use Rattle.numbers.specs.Bytes.{at, tabulate}
+use Rattle.numbers.specs.Bits.{bit, pack}
+use Rattle.numbers.proofs.Bytes.{length-tabulate, at-tabulate}
+use Rattle.numbers.proofs.Shifts.{one-shifted}
+use Rattle.expansions.specs.Split.{join}
+use Rattle.expansions.specs.BlockTable.{plane}
 use Rattle.search.specs.Search.{placeByte, planeByte, planesOf}
-use Rattle.search.proofs.Split.{join-lt}
-use Rattle.search.proofs.Pack.{pack-ext}
+use Rattle.expansions.proofs.Split.{join-lt}
+use Rattle.numbers.proofs.Pack.{pack-ext}
 
 -- ---- places
 

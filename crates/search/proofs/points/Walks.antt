@@ -7,11 +7,11 @@ use native.Mathlib.Omega.{arith}
 use native.Mathlib.Numerals.{add-one}
 use lib.Count.{onesIn}
 use lib.Pow.{pow-mono, shl-exact}
-use Rattle.algebra.specs.Terms.{bit}
-use Rattle.search.specs.Split.{gather, spread}
-use Rattle.search.proofs.Masks.{ones-next, gather-next, spread-next}
-use Rattle.search.proofs.Pack.{bit-lt}
-use Rattle.search.proofs.Split.{ones-size, gather-lt, spread-lt}
+use Rattle.numbers.specs.Bits.{bit}
+use Rattle.expansions.specs.Split.{gather, spread}
+use Rattle.expansions.proofs.Masks.{ones-next, gather-next, spread-next}
+use Rattle.numbers.proofs.Bits.{bit-lt}
+use Rattle.expansions.proofs.Split.{ones-size, gather-lt, spread-lt}
 
 -- ---- the inputs passed
 

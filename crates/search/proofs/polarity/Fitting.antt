@@ -3,8 +3,8 @@ use mathlib.Core.Path.{_≡_, refl}
 use mathlib.Core.List.{List}
 use Prim.Native.Nat.{ℕ, _^_, _≤_, _<_}
 use borrow.Author.Tests.{le-leb, lt-ltb}
-use Rattle.algebra.specs.Bytes.{at}
-use Rattle.search.specs.Members.{polarity}
+use Rattle.numbers.specs.Bytes.{at}
+use Rattle.expansions.specs.Members.{polarity}
 use Rattle.search.specs.Expansion.{termPolarity}
 
 pub termPolarity-fits : (n M i : ℕ) (blocks : List ℕ) (t : ℕ) → n ≤ 8 → M < 2 ^ n → i < 2 ^ n → termPolarity n M i blocks t ≡ polarity n M i (at blocks) t

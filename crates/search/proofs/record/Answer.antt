@@ -4,17 +4,17 @@ use mathlib.Core.Path.{_≡_, _∙_}
 use mathlib.Core.List.{List}
 use Prim.Native.Nat.{ℕ, _-_, _*_, _/_, _%_, _^_, _<_}
 use lib.Bits.{bitAnd}
-use Rattle.algebra.specs.Bytes.{at, tabulate}
-use Rattle.search.specs.Answers.{answerMixed, answerFixed, answerCoefficient}
+use Rattle.numbers.specs.Bytes.{at, tabulate}
+use Rattle.expansions.specs.Answers.{answerMixed, answerFixed, answerCoefficient}
 use Rattle.search.specs.Expansion.{answerExpansion}
-use Rattle.search.specs.Search.{Sizes, HoldsBlocks, Leads, polarityAt, coefficientAt}
+use Rattle.search.specs.Search.{Limits, HoldsBlocks, Leads, polarityAt, coefficientAt}
 use Rattle.search.specs.declared.expansion.Expansion.{Expansion}
 use Rattle.search.specs.declared.pairs.Leader.{Leader}
 use Rattle.search.proofs.record.Places.{polarities-answer, chosen-lt, coefficients-answer}
 use Rattle.search.proofs.record.Leader.{leader-mixed, leader-fixed, leader-products, leader-literals}
 
 -- `functions` holds the block functions of the leader's M and i, and `blocks` the polarities found from them
-module _ (n m k : ℕ) (f : ℕ → ℕ) (leader : Leader) (functions blocks : List ℕ) (sizes : Sizes n m k) (outputs : (p : ℕ) → p < 2 ^ n → f p < 2 ^ m)
+module _ (n m k : ℕ) (f : ℕ → ℕ) (leader : Leader) (functions blocks : List ℕ) (sizes : Limits n m k) (outputs : (p : ℕ) → p < 2 ^ n → f p < 2 ^ m)
     (leads : Leads n k f (2 ^ n * 2 ^ n) leader)
     (held : HoldsBlocks n m k (leader .pair / 2 ^ n) (bitAnd (leader .pair) (1 * 2 ^ n % 2 ^ 64 - 1)) f functions)
     (found : blocks ≡ tabulate 256 (polarityAt n m k (at functions))) where

@@ -3,15 +3,15 @@
 use mathlib.Core.Path.{_≡_, sym, ap, ap₂, _∙_}
 use mathlib.Core.List.{List}
 use Prim.Native.Nat.{ℕ, _+_, _-_, _*_, _%_, _^_, _<_}
-use Rattle.algebra.specs.Bytes.{at}
-use Rattle.algebra.specs.Terms.{bit}
-use Rattle.search.specs.Members.{block, place}
-use Rattle.search.specs.BlockTable.{pack, entry, blockTable}
+use Rattle.numbers.specs.Bytes.{at}
+use Rattle.numbers.specs.Bits.{bit, pack}
+use Rattle.expansions.specs.Members.{block, place}
+use Rattle.expansions.specs.BlockTable.{entry, blockTable}
 use Rattle.search.specs.Search.{coefficientAt}
-use Rattle.search.proofs.Pack.{bit-lt}
-use Rattle.search.proofs.BlockTable.{blockTable-entry}
-use Rattle.search.proofs.Answers.{only-below}
-use Rattle.search.proofs.Pack.{pack-more, pack-fits}
+use Rattle.numbers.proofs.Bits.{bit-lt}
+use Rattle.expansions.proofs.BlockTable.{blockTable-entry}
+use Rattle.expansions.proofs.Answers.{only-below}
+use Rattle.numbers.proofs.Pack.{pack-more, pack-fits}
 
 -- output o at the place s of block j, of 2 ^ r, under φ
 abbrev pub outputBit : List ℕ → (r j s φ : ℕ) → ℕ → ℕ

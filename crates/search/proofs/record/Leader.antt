@@ -4,15 +4,15 @@ use mathlib.Core.Path.{_≡_, sym, ap, _∙_}
 use Prim.Native.Nat.{ℕ, _-_, _*_, _/_, _%_, _^_, _≤_}
 use native.Mathlib.Omega.{arith}
 use lib.Bits.{bitAnd, and-mask}
-use Rattle.algebra.proofs.Shifts.{one-shifted}
-use Rattle.search.specs.Members.{Member}
-use Rattle.search.specs.Costs.{products, literals, charge}
-use Rattle.search.specs.Answers.{leastPair, answerPair, answerMixed, answerFixed, answerPolarity, answerCoefficient}
+use Rattle.numbers.proofs.Shifts.{one-shifted}
+use Rattle.expansions.specs.Members.{Member}
+use Rattle.expansions.specs.Costs.{products, literals, charge}
+use Rattle.expansions.specs.Answers.{leastPair, answerPair, answerMixed, answerFixed, answerPolarity, answerCoefficient}
 use Rattle.search.specs.Search.{pairValid, pairCost, Leads}
 use Rattle.search.specs.declared.pairs.Leader.{Leader}
-use Rattle.search.proofs.Least.{leading-chosen}
-use Rattle.search.proofs.Costs.{charge-products, charge-literals}
-use Rattle.search.proofs.Answers.{answer-first, answer-member, answer-charge}
+use Rattle.expansions.proofs.Least.{leading-chosen}
+use Rattle.expansions.proofs.Costs.{charge-products, charge-literals}
+use Rattle.expansions.proofs.Answers.{answer-first, answer-member, answer-charge}
 
 module _ (n k : ℕ) (f : ℕ → ℕ) (leader : Leader) (hn : n ≤ 8) (hk : k ≤ n) (leads : Leads n k f (2 ^ n * 2 ^ n) leader) where
   -- there is a valid pair, so the leader stands for one

@@ -6,21 +6,22 @@ use Prim.Native.Nat.{ℕ, _-_, _^_, _<_}
 use native.Mathlib.Omega.{arith}
 use lib.Dec.{ltb}
 use lib.Pow.{pow-mono}
-use Rattle.algebra.specs.Bytes.{at, tabulate}
-use Rattle.algebra.specs.Terms.{bit, only}
-use Rattle.algebra.proofs.Bytes.{tabulate-ext}
-use Rattle.search.specs.Members.{block, place, Member}
-use Rattle.search.specs.BlockTable.{entry}
-use Rattle.search.specs.Answers.{blockFunction, memberCoefficient, answerMixed, answerFixed, answerPolarity, answerCoefficient}
-use Rattle.search.specs.Search.{Sizes, HoldsBlocks, polarityAt, coefficientAt}
-use Rattle.search.proofs.Tables.{at-whole}
-use Rattle.search.proofs.Pack.{pack-ext}
-use Rattle.search.proofs.Blocks.{block-lt, place-lt, blockFunction-lt}
-use Rattle.search.proofs.BlockTable.{entry-outputs}
-use Rattle.search.proofs.Answers.{only-ext, answer-member, answer-polarity-lt, answer-polarity-zero}
+use Rattle.numbers.specs.Bytes.{at, tabulate}
+use Rattle.numbers.specs.Bits.{bit}
+use Rattle.numbers.specs.Tests.{only}
+use Rattle.numbers.proofs.Bytes.{tabulate-ext}
+use Rattle.expansions.specs.Members.{block, place, Member}
+use Rattle.expansions.specs.BlockTable.{entry}
+use Rattle.expansions.specs.Answers.{blockFunction, memberCoefficient, answerMixed, answerFixed, answerPolarity, answerCoefficient}
+use Rattle.search.specs.Search.{Limits, HoldsBlocks, polarityAt, coefficientAt}
+use Rattle.numbers.proofs.Tables.{at-whole}
+use Rattle.numbers.proofs.Pack.{pack-ext}
+use Rattle.expansions.proofs.Blocks.{block-lt, place-lt, blockFunction-lt}
+use Rattle.expansions.proofs.BlockTable.{entry-outputs}
+use Rattle.expansions.proofs.Answers.{only-ext, answer-member, answer-polarity-lt, answer-polarity-zero}
 use Rattle.search.proofs.HeldBlocks.{held-polarity}
 
-module _ (n m k : ℕ) (f : ℕ → ℕ) (functions : List ℕ) (sizes : Sizes n m k) (outputs : (p : ℕ) → p < 2 ^ n → f p < 2 ^ m)
+module _ (n m k : ℕ) (f : ℕ → ℕ) (functions : List ℕ) (sizes : Limits n m k) (outputs : (p : ℕ) → p < 2 ^ n → f p < 2 ^ m)
     (held : HoldsBlocks n m k (answerMixed n k f) (answerFixed n k f) f functions) where
   member : Member n k (answerMixed n k f) (answerFixed n k f) (answerPolarity n k f)
   member = answer-member n k f (sizes .within)

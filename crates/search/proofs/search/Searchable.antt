@@ -4,15 +4,16 @@ use mathlib.Core.Bool.{Bool, true, false, _&&_}
 use mathlib.Core.List.{List}
 use Prim.Native.Nat.{ℕ, _^_, _≤_, _<_}
 use native.Mathlib.Omega.{arith}
-use borrow.Author.Tests.{le-leb, eq-eqb, leb-true, eqb-true}
-use lib.Dec.{T, leb, eqb}
+use borrow.Author.Tests.{eq-eqb, eqb-true}
+use lib.Dec.{T, eqb}
 use lib.ListN.{length}
 use lib.Pow.{pow-pos}
-use Rattle.algebra.specs.Bytes.{at}
-use Rattle.algebra.specs.Calls.{allBelow}
-use Rattle.algebra.proofs.calls.Judging.{below-at}
+use Rattle.numbers.specs.Bytes.{at, allBelow}
+use Rattle.numbers.proofs.refusals.Outputs.{below-at}
 use Rattle.search.specs.Expansion.{answerExpansion, searchable, searched}
-use Rattle.search.specs.Search.{Sizes, Given}
+use Rattle.search.specs.Search.{Limits, Given}
+use Rattle.numbers.specs.Refusals.{sizesRefusal, Sized}
+use Rattle.numbers.proofs.refusals.Judging.{sizes-none, sizes-accepted}
 
 both : (a b : Bool) → (a && b) ≡ true → (a ≡ true) × (b ≡ true)
 both true b e = (refl, e)
@@ -24,36 +25,29 @@ both false b e = absurd (true-not-false e)
 -- ---- from the test
 
 module _ (n m k : ℕ) (table : List ℕ) (e : searchable n m k table ≡ true) where
-  tests : (leb n 8 ≡ true) × (leb m 8 ≡ true) × (leb k 3 ≡ true) × (leb k n ≡ true) × (eqb (length table) (2 ^ n) ≡ true) × (allBelow (2 ^ m) table ≡ true)
+  tests : (eqb (sizesRefusal n m k) 0 ≡ true) × (eqb (length table) (2 ^ n) ≡ true) × (allBelow (2 ^ m) table ≡ true)
   unfolding searchable
   tests =
       let a = both _ _ e in
       let b = both _ _ (a .1) in
-      let c = both _ _ (b .1) in
-      let d = both _ _ (c .1) in
-      let f = both _ _ (d .1) in
-      (a .0, b .0, c .0, d .0, f .0, f .1)
+      (a .0, b .0, b .1)
 
-  pub allowed-sizes : Sizes n m k
+  pub allowed-sizes : Limits n m k
   allowed-sizes =
-      record {
-        inputs = leb-true n 8 (tests .0);
-        outputs = leb-true m 8 (tests .1);
-        mixed = leb-true k 3 (tests .2);
-        within = leb-true k n (tests .3);
-      }
+      let s = sizes-none n m k (eqb-true (sizesRefusal n m k) 0 (tests .0)) in
+      record { inputs = s .inputs .1; outputs = s .outputs .1; mixed = s .mixed .0; within = s .mixed .1 }
 
   pub allowed-table : Given n m table
   allowed-table =
-      record { long = eqb-true (length table) (2 ^ n) (tests .4); clean = below-at (2 ^ m) table (pow-pos m) (rw (tests .5) tt) }
+      record { long = eqb-true (length table) (2 ^ n) (tests .1); clean = below-at (2 ^ m) table (pow-pos m) (rw (tests .2) tt) }
 
 -- ---- to the answer
 
-pub searched-answer : (n m k : ℕ) (table : List ℕ) → n ≤ 8 → m ≤ 8 → k ≤ 3 → k ≤ n → length table ≡ 2 ^ n → T (allBelow (2 ^ m) table)
+pub searched-answer : (n m k : ℕ) (table : List ℕ) → Sized n m k → length table ≡ 2 ^ n → T (allBelow (2 ^ m) table)
     → searched n m k table ≡ answerExpansion n k (at table)
 unfolding searched searchable
-searched-answer n m k table hn hm hk hkn long clean =
-    rw (le-leb n 8 hn, le-leb m 8 hm, le-leb k 3 hk, le-leb k n hkn, eq-eqb (length table) (2 ^ n) long, is-true (allBelow (2 ^ m) table) clean)
+searched-answer n m k table sized long clean =
+    rw (sizes-accepted n m k sized, eq-eqb (length table) (2 ^ n) long, is-true (allBelow (2 ^ m) table) clean)
   where
     is-true : (b : Bool) → T b → b ≡ true
     is-true true t = refl

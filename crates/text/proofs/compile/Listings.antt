@@ -9,7 +9,7 @@ use lib.Dec.{leb}
 use lib.ListN.{length, take, drop, replicate, length-append, length-drop, length-replicate}
 use borrow.Author.Tests.{le-leb, leb-true}
 use lib.Seq.{take-append-seam}
-use Rattle.algebra.specs.Bytes.{at}
+use Rattle.numbers.specs.Bytes.{at}
 use Rattle.search.specs.Expansion.{answerExpansion}
 use Rattle.search.proofs.expansion.Answer.{answerExpansion-is, expansion-coefficients-lt}
 use Rattle.text.specs.declared.read.Sizes.{Sizes}

@@ -10,10 +10,9 @@ use lib.Dec.{T, leb}
 use lib.ListN.{length, take, List·getD-eq-default}
 use lib.Pow.{pow-pos, pow-mono}
 use lib.Seq.{length-take-le, getD-take}
-use Rattle.algebra.specs.Bytes.{at}
-use Rattle.algebra.specs.Calls.{allBelow}
-use Rattle.algebra.proofs.Shifts.{one-shifted}
-use Rattle.algebra.proofs.calls.Judging.{below-from}
+use Rattle.numbers.specs.Bytes.{at, allBelow}
+use Rattle.numbers.proofs.Shifts.{one-shifted}
+use Rattle.numbers.proofs.refusals.Outputs.{below-from}
 use Rattle.search.specs.Expansion.{answerExpansion, searched}
 use Rattle.search.proofs.expansion.Answer.{answerExpansion-is, answerExpansion-ext}
 use Rattle.search.proofs.search.Searchable.{searched-answer}
@@ -31,11 +30,11 @@ use Rattle.text.proofs.ListedAnswers.{answer-listable}
 
 module _ (z : Sizes) (table : List ℕ) (a : Accepted z table) where
   size-le : 2 ^ z .n ≤ 256
-  size-le = pow-mono (a .sized .n-in .1)
+  size-le = pow-mono (a .sized .inputs .1)
 
   -- the part of the table that the search is lent
   pub part-size : 1 * 2 ^ z .n % 2 ^ 64 ≡ 2 ^ z .n
-  part-size = one-shifted (z .n) (omega (arith, a .sized .n-in .1))
+  part-size = one-shifted (z .n) (omega (arith, a .sized .inputs .1))
 
   pub part-within : 1 * 2 ^ z .n % 2 ^ 64 ≤ length table
   part-within = omega (arith, part-size, size-le, a .table .long)
@@ -62,13 +61,13 @@ module _ (z : Sizes) (table : List ℕ) (a : Accepted z table) where
   pub searched-table : searched (z .n) (z .m) (z .k) (take (1 * 2 ^ z .n % 2 ^ 64) table) ≡ answerExpansion (z .n) (z .k) (at table)
   unfolding part
   searched-table =
-      searched-answer (z .n) (z .m) (z .k) part (a .sized .n-in .1) (a .sized .m-in .1) (a .sized .k-in .0) (a .sized .k-in .1) part-long part-clean
+      searched-answer (z .n) (z .m) (z .k) part (a .sized) part-long part-clean
       ∙ answerExpansion-ext (z .n) (z .k) (at part) (at table) part-at
 
   pub table-listable : Listable (z .n) (z .m) (answerExpansion (z .n) (z .k) (at table))
   table-listable =
       let b = a .sized in
-      answer-listable (z .n) (z .m) (z .k) _ (at table) (b .n-in .1) (b .m-in .1) (b .k-in .0) (answerExpansion-is (z .n) (z .k) (at table) (b .n-in .1) (b .k-in .1))
+      answer-listable (z .n) (z .m) (z .k) _ (at table) (b .inputs .1) (b .outputs .1) (b .mixed .0) (answerExpansion-is (z .n) (z .k) (at table) (b .inputs .1) (b .mixed .1))
 
 -- ---- from the writer's answer to the call's
 

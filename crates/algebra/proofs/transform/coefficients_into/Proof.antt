@@ -4,7 +4,7 @@ use mathlib.Core.Path.{_≡_, refl, sym, ap, _∙_}
 use Prim.Native.Nat.{ℕ, _%_, _^_}
 use lib.ListN.{length}
 use Rattle.algebra.specs.Transform.{coefficientBytes}
-use Rattle.algebra.proofs.Bytes.{length-tabulate}
+use Rattle.numbers.proofs.Bytes.{length-tabulate}
 use Rattle.algebra.proofs.transform.Filling.{Fitting, fits-true, move-room, coefficients-filled}
 use native.Mathlib.Omega.{arith}
 use Rattle.algebra.proofs.transform.coefficients_into.Statement.{statement}

@@ -6,10 +6,10 @@ use Prim.Native.Nat.{ℕ, _^_, _%_, _≤_, _<_}
 use lib.Bits.{bitXor, xor-lt}
 use lib.ListN.{length}
 use lib.Pow.{pow-mono}
-use Rattle.algebra.specs.Bytes.{at, tabulate}
+use Rattle.numbers.specs.Bytes.{at, tabulate}
 use Rattle.algebra.specs.Coefficients.{xorInside}
 use Rattle.algebra.specs.Transform.{functionAt}
-use Rattle.algebra.proofs.Bytes.{length-tabulate}
+use Rattle.numbers.proofs.Bytes.{length-tabulate}
 use Rattle.algebra.proofs.transform.Filling.{values-filled, array-whole}
 use native.Mathlib.Omega.{arith}
 use Rattle.algebra.proofs.transform.fill_values.Statement.{statement}

@@ -4,7 +4,7 @@ use mathlib.Core.Path.{_≡_}
 use Prim.Native.Nat.{_*_, _%_, _^_, _≤_, _<_}
 use borrow.Author.Tests.{le-leb, lt-leb, lt-ltb, le-ltb, eq-eqb, ne-eqb}
 use Rattle.algebra.specs.Transform.{fits}
-use Rattle.algebra.proofs.Shifts.{one-shifted}
+use Rattle.numbers.proofs.Shifts.{one-shifted}
 use native.Mathlib.Omega.{arith}
 use Rattle.algebra.proofs.transform.lengths_fit.Statement.{statement}
 use Rattle.algebra.proofs.transform.lengths_fit.Tie as tie

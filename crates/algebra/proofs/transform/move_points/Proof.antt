@@ -4,8 +4,8 @@ use mathlib.Core.Path.{refl}
 use Prim.Native.Nat.{ℕ, _-_, _<_}
 use lib.Bits.{bitXor}
 use lib.ListN.{length}
-use Rattle.algebra.specs.Bytes.{at}
-use Rattle.algebra.proofs.Bytes.{Filled, filled-none, filled-more, filled-all}
+use Rattle.numbers.specs.Bytes.{at}
+use Rattle.numbers.proofs.Bytes.{Filled, filled-none, filled-more, filled-all}
 use native.Mathlib.Omega.{arith}
 use Rattle.algebra.proofs.transform.move_points.Statement.{statement}
 use Rattle.algebra.proofs.transform.move_points.Tie as tie

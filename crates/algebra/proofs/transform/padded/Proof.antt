@@ -3,8 +3,8 @@ use borrow.Author.Needs.{needs}
 use mathlib.Core.Path.{_≡_, _∙_, ap}
 use Prim.Native.Nat.{ℕ, _-_}
 use lib.ListN.{length}
-use Rattle.algebra.specs.Bytes.{at, tabulate}
-use Rattle.algebra.proofs.Bytes.{Filled, filled-none, filled-more, filled-all}
+use Rattle.numbers.specs.Bytes.{at, tabulate}
+use Rattle.numbers.proofs.Bytes.{Filled, filled-none, filled-more, filled-all}
 use native.Mathlib.Omega.{arith}
 use Rattle.algebra.proofs.transform.padded.Statement.{statement}
 use Rattle.algebra.proofs.transform.padded.Tie as tie

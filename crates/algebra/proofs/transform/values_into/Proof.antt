@@ -5,7 +5,7 @@ use Prim.Native.Nat.{_*_, _^_, _%_}
 use borrow.Author.Tests.{eq-eqb, ne-eqb}
 use lib.ListN.{length}
 use Rattle.algebra.specs.Transform.{valueBytes}
-use Rattle.algebra.proofs.Shifts.{one-shifted}
+use Rattle.numbers.proofs.Shifts.{one-shifted}
 use Rattle.algebra.proofs.transform.Filling.{Fitting, fits-true}
 use native.Mathlib.Omega.{arith}
 use Rattle.algebra.proofs.transform.values_into.Statement.{statement}

@@ -1,11 +1,12 @@
 -- The rule of all 2,048 entries is one test, which the checker computes; `matches-tabulate` turns it into the equation, and
 -- `blockTable-entry` (proofs/BlockTable) reads an entry off it.
 use mathlib.Core.Path.{refl}
-use Rattle.algebra.specs.Sums.{foldBelow}
-use Rattle.algebra.specs.Terms.{inside, only}
+use Rattle.numbers.specs.Sums.{foldBelow}
+use Rattle.numbers.specs.Bits.{inside, pack}
+use Rattle.numbers.specs.Tests.{only}
 use Rattle.algebra.specs.Coefficients.{xorInside, coefficient}
-use Rattle.search.specs.BlockTable.{pack, entry, blockTable}
-use Rattle.search.proofs.Tables.{matches, matches-tabulate}
+use Rattle.expansions.specs.BlockTable.{entry, blockTable}
+use Rattle.numbers.proofs.Tables.{matches, matches-tabulate}
 use Rattle.search.proofs.block_table.block_table.Statement.{statement}
 use Rattle.search.proofs.block_table.block_table.Tie as tie
 

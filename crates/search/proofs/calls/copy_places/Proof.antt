@@ -4,8 +4,8 @@ use mathlib.Core.Path.{refl}
 use native.Mathlib.Omega.{arith}
 use Prim.Native.Nat.{_-_}
 use lib.ListN.{length, length-set}
-use Rattle.algebra.specs.Bytes.{at}
-use Rattle.algebra.proofs.Bytes.{Filled, filled-none, filled-more, filled-all}
+use Rattle.numbers.specs.Bytes.{at}
+use Rattle.numbers.proofs.Bytes.{Filled, filled-none, filled-more, filled-all}
 use Rattle.search.proofs.calls.copy_places.Statement.{statement}
 use Rattle.search.proofs.calls.copy_places.Tie as tie
 

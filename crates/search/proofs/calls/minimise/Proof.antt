@@ -40,9 +40,8 @@ returns-2 c =
     let searched = copied .before .before .before .before in
     let passed = searched .before in
     let a = accepted passed in
-    let b = a .bounded in
     minimise-found _ _ _ _ _ _ _ _ _ (sym (passed .before .first-refusal .ensures) ∙ passed .if1 .left)
-    (searched .search .ensures ∙ searched-answer _ _ _ _ (b .inputs .1) (b .outputs .1) (b .mixed .0) (b .mixed .1) (a .table-long) (a .clean))
+    (searched .search .ensures ∙ searched-answer _ _ _ _ (a .sized) (a .table-long) (a .clean))
     (copied .copy-places .ensures) (c .before .before .copy-places2 .ensures)
 
 pub minimise-spec : {M : Type 1} → statement M

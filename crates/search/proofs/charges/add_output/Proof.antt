@@ -5,10 +5,10 @@ use mathlib.Core.List.{List}
 use Prim.Native.Nat.{ℕ, _+_, _*_, _-_}
 use lib.Bits.{bitOr}
 use lib.ListN.{length}
-use Rattle.algebra.specs.Bytes.{at, tabulate}
-use Rattle.algebra.proofs.Bytes.{Filled, filled-none, filled-more, filled-all}
-use Rattle.search.specs.BlockTable.{entry}
-use Rattle.search.proofs.BlockTable.{blockTable-entry}
+use Rattle.numbers.specs.Bytes.{at, tabulate}
+use Rattle.numbers.proofs.Bytes.{Filled, filled-none, filled-more, filled-all}
+use Rattle.expansions.specs.BlockTable.{entry}
+use Rattle.expansions.proofs.BlockTable.{blockTable-entry}
 use native.Mathlib.Omega.{arith}
 use Rattle.search.proofs.charges.add_output.Statement.{statement}
 use Rattle.search.proofs.charges.add_output.Tie as tie

@@ -4,11 +4,11 @@ use Prim.Native.Nat.{ℕ, _+_, _*_, _-_, _≤_}
 use native.Mathlib.Numerals.{add-one}
 use native.Mathlib.Omega.{arith}
 use borrow.Author.Needs.{needs}
-use Rattle.algebra.specs.Sums.{foldBelow, sumBelow}
-use Rattle.algebra.specs.Terms.{bit}
-use Rattle.search.specs.Costs.{weight}
-use Rattle.search.specs.Charges.{literalCounts, literalCount, byteCharge}
-use Rattle.search.proofs.charges.Bytes.{literalCount-le, byteCharge-term}
+use Rattle.numbers.specs.Sums.{foldBelow, sumBelow}
+use Rattle.numbers.specs.Bits.{bit}
+use Rattle.expansions.specs.Costs.{weight}
+use Rattle.expansions.specs.Charges.{literalCounts, literalCount, byteCharge}
+use Rattle.expansions.proofs.Charges.{literalCount-le, byteCharge-term}
 use Rattle.search.proofs.charges.byte_charge.Statement.{statement}
 use Rattle.search.proofs.charges.byte_charge.Tie as tie
 

@@ -4,8 +4,8 @@ use mathlib.Core.Logic.{⊎-elim}
 use Prim.Native.Nat.{_-_}
 use mir.Val.{Fits}
 use mir.Syntax.{w8}
-use Rattle.algebra.specs.Bytes.{at}
-use Rattle.search.specs.Costs.{weight}
+use Rattle.numbers.specs.Bytes.{at}
+use Rattle.expansions.specs.Costs.{weight}
 use Rattle.search.proofs.charges.Polarities.{PolaritiesTried, tried-none, tried-lt, cost-le, tried-take, tried-keep, tried-all}
 use native.Mathlib.Omega.{arith}
 use Rattle.search.proofs.charges.least_polarity.Statement.{statement}

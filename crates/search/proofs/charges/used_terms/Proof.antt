@@ -2,9 +2,9 @@
 use borrow.Author.Needs.{needs}
 use mathlib.Core.Path.{_≡_, ap, _∙_}
 use Prim.Native.Nat.{ℕ, _-_, _≤_}
-use Rattle.algebra.specs.Bytes.{at, tabulate}
+use Rattle.numbers.specs.Bytes.{at, tabulate}
 use lib.ListN.{length}
-use Rattle.algebra.proofs.Bytes.{length-tabulate}
+use Rattle.numbers.proofs.Bytes.{length-tabulate}
 use Rattle.search.specs.Search.{usedAt}
 use Rattle.search.proofs.charges.Used.{function-at, function-within, used-none, used-next}
 use native.Mathlib.Omega.{arith}

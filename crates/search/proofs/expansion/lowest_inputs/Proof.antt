@@ -4,7 +4,7 @@ use Prim.Native.Nat.{min}
 use native.Mathlib.Omega.{arith}
 use borrow.Author.Needs.{needs}
 use lib.Pow.{pow-pos}
-use Rattle.algebra.proofs.Shifts.{one-shifted}
+use Rattle.numbers.proofs.Shifts.{one-shifted}
 use Rattle.search.proofs.expansion.lowest_inputs.Statement.{statement}
 use Rattle.search.proofs.expansion.lowest_inputs.Tie as tie
 

@@ -6,8 +6,8 @@ use native.Mathlib.Nat.{zero-mul}
 use native.Mathlib.Numerals.{add-one}
 use lib.ListN.{length}
 use lib.Pow.{pow-mono}
-use Rattle.algebra.specs.Bytes.{at}
-use Rattle.algebra.proofs.Shifts.{one-shifted}
+use Rattle.numbers.specs.Bytes.{at}
+use Rattle.numbers.proofs.Shifts.{one-shifted}
 use Rattle.search.specs.Search.{Room, Leads}
 use Rattle.search.proofs.pairs.Leading.{leads-none}
 use native.Mathlib.Omega.{arith}

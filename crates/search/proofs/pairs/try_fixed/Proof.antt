@@ -2,8 +2,8 @@
 use borrow.Author.Needs.{needs}
 use mathlib.Core.Path.{_≡_, sym, ap, _∙_, subst}
 use Prim.Native.Nat.{ℕ, _+_, _*_, _^_, suc, _<_}
-use Rattle.algebra.specs.Bytes.{at}
-use Rattle.search.specs.Answers.{pairCharge, blockCharge}
+use Rattle.numbers.specs.Bytes.{at}
+use Rattle.expansions.specs.Answers.{pairCharge, blockCharge}
 use Rattle.search.specs.Search.{Leads}
 use Rattle.search.proofs.HeldBlocks.{held-pair, pairCharge-lt}
 use Rattle.search.proofs.pairs.Leading.{leads-skip, leads-take, leads-keep, pair-shifted, pair-lt}

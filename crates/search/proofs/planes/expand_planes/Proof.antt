@@ -2,7 +2,7 @@
 use borrow.Author.Needs.{needs}
 use mathlib.Core.Path.{ap, _∙_}
 use Prim.Native.Nat.{ℕ}
-use Rattle.search.specs.Split.{gather}
+use Rattle.expansions.specs.Split.{gather}
 use Rattle.search.proofs.planes.Expanding.{planes-expanded}
 use Rattle.search.proofs.planes.expand_planes.Statement.{statement}
 use Rattle.search.proofs.planes.expand_planes.Tie as tie

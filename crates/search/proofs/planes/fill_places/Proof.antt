@@ -3,9 +3,9 @@ use borrow.Author.Needs.{needs}
 use Prim.Native.Nat.{_-_}
 use lib.ListN.{length}
 use lib.Pow.{pow-pos}
-use Rattle.algebra.specs.Bytes.{at}
-use Rattle.algebra.proofs.Bytes.{Filled, filled-none, filled-more, filled-all}
-use Rattle.algebra.proofs.Shifts.{one-shifted}
+use Rattle.numbers.specs.Bytes.{at}
+use Rattle.numbers.proofs.Bytes.{Filled, filled-none, filled-more, filled-all}
+use Rattle.numbers.proofs.Shifts.{one-shifted}
 use Rattle.search.specs.Search.{placeByte}
 use Rattle.search.proofs.planes.Filling.{place-read, place-room}
 use native.Mathlib.Omega.{arith}

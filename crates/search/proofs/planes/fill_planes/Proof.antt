@@ -2,8 +2,8 @@
 use borrow.Author.Needs.{needs}
 use Prim.Native.Nat.{_-_}
 use lib.ListN.{length}
-use Rattle.algebra.specs.Bytes.{at}
-use Rattle.algebra.proofs.Bytes.{Filled, filled-none, filled-more, filled-all}
+use Rattle.numbers.specs.Bytes.{at}
+use Rattle.numbers.proofs.Bytes.{Filled, filled-none, filled-more, filled-all}
 use Rattle.search.specs.Search.{planeByte}
 use Rattle.search.proofs.planes.Filling.{block-mask, block-room, output-room, plane-read}
 use native.Mathlib.Omega.{arith}

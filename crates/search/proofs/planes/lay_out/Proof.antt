@@ -1,6 +1,6 @@
 -- `lay_out` meets its contract: the planes are filled from the places.
 use borrow.Author.Needs.{needs}
-use Rattle.algebra.specs.Bytes.{at}
+use Rattle.numbers.specs.Bytes.{at}
 use Rattle.search.specs.Search.{placeByte}
 use Rattle.search.proofs.planes.Filling.{places-long, planes-laid, planes-room}
 use native.Mathlib.Omega.{arith}

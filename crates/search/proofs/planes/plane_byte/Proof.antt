@@ -2,11 +2,10 @@
 use borrow.Author.Needs.{needs}
 use mathlib.Core.Path.{_≡_, _∙_, ap}
 use Prim.Native.Nat.{ℕ, _+_, _-_, _*_, _≤_}
-use Rattle.algebra.specs.Bytes.{at}
-use Rattle.algebra.specs.Terms.{bit}
-use Rattle.search.specs.BlockTable.{pack}
-use Rattle.search.proofs.Pack.{bit-lt}
-use Rattle.search.proofs.Pack.{pack-none, pack-more, pack-fits}
+use Rattle.numbers.specs.Bytes.{at}
+use Rattle.numbers.specs.Bits.{bit, pack}
+use Rattle.numbers.proofs.Bits.{bit-lt}
+use Rattle.numbers.proofs.Pack.{pack-none, pack-more, pack-fits}
 use native.Mathlib.Omega.{arith}
 use Rattle.search.proofs.planes.plane_byte.Statement.{statement}
 use Rattle.search.proofs.planes.plane_byte.Tie as tie

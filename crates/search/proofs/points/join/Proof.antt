@@ -2,7 +2,7 @@
 use borrow.Author.Needs.{needs}
 use mathlib.Core.Path.{ap, ap₂, _∙_}
 use Prim.Native.Nat.{ℕ, _+_}
-use Rattle.search.specs.Split.{spread, join}
+use Rattle.expansions.specs.Split.{spread, join}
 use Rattle.search.proofs.points.Walks.{spread-small}
 use native.Mathlib.Omega.{arith}
 use Rattle.search.proofs.points.join.Statement.{statement}

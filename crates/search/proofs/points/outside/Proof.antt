@@ -3,8 +3,8 @@ use borrow.Author.Needs.{needs}
 use mathlib.Core.Path.{_≡_, sym}
 use Prim.Native.Nat.{_*_, _%_, _^_}
 use lib.Pow.{pow-pos}
-use Rattle.algebra.proofs.Shifts.{one-shifted}
-use Rattle.search.proofs.Masks.{outside-difference}
+use Rattle.numbers.proofs.Shifts.{one-shifted}
+use Rattle.expansions.proofs.Masks.{outside-difference}
 use native.Mathlib.Omega.{arith}
 use Rattle.search.proofs.points.outside.Statement.{statement}
 use Rattle.search.proofs.points.outside.Tie as tie

@@ -2,7 +2,7 @@
 use borrow.Author.Needs.{needs}
 use mathlib.Core.Path.{_≡_, refl, _∙_, ap}
 use Prim.Native.Nat.{ℕ, _+_, _-_}
-use Rattle.search.specs.Split.{spread}
+use Rattle.expansions.specs.Split.{spread}
 use Rattle.search.proofs.points.Walks.{Passed, passed-none, passed-more, passed-few, passed-all, bits-lt, spread-digit, spread-small}
 use native.Mathlib.Omega.{arith}
 use Rattle.search.proofs.points.spread.Statement.{statement}

@@ -3,10 +3,10 @@ use borrow.Author.Needs.{needs}
 use mathlib.Core.Path.{_≡_, sym, ap, _∙_}
 use Prim.Native.Nat.{ℕ, _+_, _*_, _^_, _%_, _≤_, _<_}
 use borrow.Author.Tests.{le-leb, lt-leb, lt-ltb, le-ltb}
-use Rattle.algebra.specs.Bytes.{at}
-use Rattle.algebra.proofs.Shifts.{one-shifted}
-use Rattle.search.specs.Split.{gather, spread, outside}
-use Rattle.search.specs.Members.{polarity}
+use Rattle.numbers.specs.Bytes.{at}
+use Rattle.numbers.proofs.Shifts.{one-shifted}
+use Rattle.expansions.specs.Split.{gather, spread, outside}
+use Rattle.expansions.specs.Members.{polarity}
 use Rattle.search.specs.Expansion.{termPolarity}
 use Rattle.search.proofs.points.Walks.{gather-small, spread-small}
 use lib.Pow.{pow-mono}

@@ -3,12 +3,12 @@ use borrow.Author.Needs.{needs}
 use mathlib.Core.Path.{_≡_, sym, ap, _∙_}
 use Prim.Native.Nat.{ℕ, _-_, _*_, _%_, _^_, _≤_, _<_}
 use lib.Pow.{pow-mono}
-use Rattle.algebra.proofs.Shifts.{one-shifted}
-use Rattle.search.specs.Split.{gather, outside}
-use Rattle.search.specs.Members.{block}
+use Rattle.numbers.proofs.Shifts.{one-shifted}
+use Rattle.expansions.specs.Split.{gather, outside}
+use Rattle.expansions.specs.Members.{block}
 use Rattle.search.specs.Search.{coefficientAt}
-use Rattle.search.proofs.Split.{ones-others, gather-lt}
-use Rattle.search.proofs.Answers.{only-above}
+use Rattle.expansions.proofs.Split.{ones-others, gather-lt}
+use Rattle.expansions.proofs.Answers.{only-above}
 use Rattle.search.proofs.record.Bytes.{coefficientAt-byte}
 use native.Mathlib.Omega.{arith}
 use Rattle.search.proofs.record.coefficient_at.Statement.{statement}

@@ -4,10 +4,10 @@ use mathlib.Core.Path.{_≡_, ap, _∙_}
 use Prim.Native.Nat.{ℕ, _+_, _-_, _*_, _%_, _^_, _≤_, _<_}
 use lib.Arith.{digits-lt}
 use lib.ListN.{length}
-use Rattle.algebra.specs.Bytes.{at}
-use Rattle.search.specs.BlockTable.{pack}
+use Rattle.numbers.specs.Bytes.{at}
+use Rattle.numbers.specs.Bits.{pack}
 use Rattle.search.proofs.charges.Used.{function-at}
-use Rattle.search.proofs.Pack.{pack-none}
+use Rattle.numbers.proofs.Pack.{pack-none}
 use Rattle.search.proofs.record.Bytes.{outputBit, outputs-more, outputs-fit}
 use native.Mathlib.Omega.{arith}
 use Rattle.search.proofs.record.coefficient_byte.Statement.{statement}

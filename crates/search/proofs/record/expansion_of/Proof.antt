@@ -3,10 +3,10 @@ use borrow.Author.Needs.{needs}
 use Prim.Native.Nat.{_-_, _*_, _/_, _%_, _^_}
 use lib.Bits.{bitAnd}
 use lib.Pow.{pow-pos}
-use Rattle.algebra.specs.Bytes.{at}
-use Rattle.algebra.proofs.Shifts.{one-shifted}
-use Rattle.search.specs.Members.{Member}
-use Rattle.search.specs.Answers.{answerPolarity}
+use Rattle.numbers.specs.Bytes.{at}
+use Rattle.numbers.proofs.Shifts.{one-shifted}
+use Rattle.expansions.specs.Members.{Member}
+use Rattle.expansions.specs.Answers.{answerPolarity}
 use Rattle.search.proofs.record.Leader.{leader-member}
 use Rattle.search.proofs.record.Answer.{blocks-lt, record-answer}
 use native.Mathlib.Omega.{arith}

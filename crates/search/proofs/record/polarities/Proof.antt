@@ -1,9 +1,9 @@
 -- The loop fills the array by `polarityAt`, from the front.
 use borrow.Author.Needs.{needs}
 use Prim.Native.Nat.{_-_}
-use Rattle.algebra.specs.Bytes.{at}
+use Rattle.numbers.specs.Bytes.{at}
 use Rattle.search.specs.Search.{polarityAt}
-use Rattle.algebra.proofs.Bytes.{Filled, filled-none, filled-more, filled-all}
+use Rattle.numbers.proofs.Bytes.{Filled, filled-none, filled-more, filled-all}
 use native.Mathlib.Omega.{arith}
 use Rattle.search.proofs.record.polarities.Statement.{statement}
 use Rattle.search.proofs.record.polarities.Tie as tie

@@ -3,8 +3,8 @@ use borrow.Author.Needs.{needs}
 use mathlib.Core.Path.{_≡_, _∙_}
 use Prim.Native.Nat.{ℕ, _-_, _≤_, _<_, _^_}
 use native.Mathlib.Numerals.{add-one}
-use Rattle.algebra.specs.Bytes.{at}
-use Rattle.search.specs.Members.{polarity}
+use Rattle.numbers.specs.Bytes.{at}
+use Rattle.expansions.specs.Members.{polarity}
 use Rattle.search.specs.Expansion.{termPolarity}
 use Rattle.search.proofs.polarity.Fitting.{termPolarity-fits}
 use Rattle.text.specs.Listing.{termLines}

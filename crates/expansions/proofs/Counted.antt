@@ -1,0 +1,58 @@
+-- What one term counts: once, whatever outputs it has (`counted-bits`), and by its weight, in which each literal counts one
+-- (`weight-more`).
+use mathlib.Core.Path.{_≡_, refl, sym, ap, _∙_}
+use Prim.Native.Nat.{ℕ, zero, suc, _+_, _*_, _%_, _^_, _≤_, _<_, max}
+use native.Mathlib.Nat.{zero-mul, one-mul, mod-one}
+use native.Mathlib.Numerals.{one-add}
+use native.Mathlib.Omega.{arith}
+use lib.Pow.{pow-pos, mod-pow-add}
+use Rattle.numbers.specs.Sums.{foldBelow}
+use Rattle.numbers.specs.Bits.{bit}
+use Rattle.expansions.specs.Costs.{counted, weight}
+use Rattle.numbers.proofs.Bits.{bit-lt}
+
+-- ---- counted
+
+pub counted-le : (c a b : ℕ) → a ≤ b → counted c a ≤ b
+unfolding counted
+counted-le zero a b h = omega arith
+counted-le (suc c) a b h = h
+
+pub counted-mul : (c x : ℕ) → counted c x ≡ counted c 1 * x
+unfolding counted
+counted-mul zero x = sym (zero-mul x)
+counted-mul (suc c) x = sym (one-mul x)
+
+counted-pos : (c : ℕ) → 0 < c → counted c 1 ≡ 1
+unfolding counted
+counted-pos zero h = absurd (omega arith)
+counted-pos (suc c) h = refl
+
+counted-digit : (m a b : ℕ) → a < 2 → max (counted b 1) a ≡ counted (a * 2 ^ m + b) 1
+counted-digit m zero b h = let e : 0 * 2 ^ m + b ≡ b = omega arith in rw e (omega arith)
+counted-digit m (suc zero) b h = omega (arith, counted-le b 1 1 (omega arith), counted-pos (1 * 2 ^ m + b) (omega (arith, pow-pos m)))
+counted-digit m (suc (suc a)) b h = absurd (omega arith)
+
+-- a number has a bit that is 1 exactly where it is not 0
+pub counted-bits : (m x : ℕ) → foldBelow max m (λ o. bit o x) ≡ counted (x % 2 ^ m) 1
+unfolding foldBelow counted
+counted-bits zero x = sym (ap (λ (y : ℕ). counted y 1) (mod-one x))
+counted-bits (suc m) x =
+    ap (λ (y : ℕ). max y (bit m x)) (counted-bits m x) ∙ counted-digit m (bit m x) (x % 2 ^ m) (bit-lt m x)
+    ∙ ap (λ (y : ℕ). counted y 1) (sym (mod-pow-add x 1 m)) ∙ ap (λ (y : ℕ). counted (x % 2 ^ y) 1) (one-add m)
+
+-- ---- weight
+
+pub counted-weight : (c l : ℕ) → counted c (weight l) ≡ counted c 1 * 4096 + counted c l
+unfolding counted weight
+counted-weight zero l = refl
+counted-weight (suc c) l = omega arith
+
+-- each literal more weighs one more
+pub weight-more : (more l : ℕ) → weight (more + l) ≡ weight l + more
+unfolding weight
+weight-more more l = omega arith
+
+pub weight-le : (l most : ℕ) → l ≤ most → weight l ≤ weight most
+unfolding weight
+weight-le l most h = omega arith

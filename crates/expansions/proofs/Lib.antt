@@ -1,0 +1,10 @@
+pub mod Split
+pub mod Masks
+pub mod Least
+pub mod Blocks
+pub mod Counted
+pub mod Costs
+pub mod Minimal
+pub mod Answers
+pub mod Charges
+pub mod BlockTable

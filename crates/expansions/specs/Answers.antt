@@ -1,0 +1,90 @@
+-- The answer, twice. First as document 01 says it: the member that gives the table and comes first in its order. Then as a function,
+-- block by block. The function's result is that member, and the only one (proofs/Answers, `answer-is`, `answer-only`).
+use mathlib.Core.Bool.{Bool, true, _&&_}
+use mathlib.Core.Path.{_≡_}
+use Prim.Native.Nat.{ℕ, _+_, _-_, _*_, _/_, _%_, _^_, _≤_, _<_}
+use lib.Count.{onesIn, ones}
+use lib.Dec.{eqb, ltb}
+use Rattle.numbers.specs.Sums.{sumBelow}
+use Rattle.numbers.specs.Tests.{only}
+use Rattle.algebra.specs.Coefficients.{coefficient}
+use Rattle.expansions.specs.Split.{gather, outside, join}
+use Rattle.expansions.specs.Members.{block, place, Member, Gives}
+use Rattle.expansions.specs.Costs.{counted, products, literals, weight}
+use Rattle.expansions.specs.Least.{LeastThen, firstLeast, chosen}
+
+-- ---- the answer in document 01's words
+
+-- "fewest products, then fewest literals, then least M, then least i, then in each block the least φj"
+abbrev pub NotAfter : ℕ → ℕ → (M i : ℕ) (φ c : ℕ → ℕ) → (M′ i′ : ℕ) (φ′ c′ : ℕ → ℕ) → Type 0
+NotAfter n k M i φ c M′ i′ φ′ c′ =
+    LeastThen (products n c) (products n c′)
+    (LeastThen (literals n c) (literals n c′) (LeastThen M M′ (LeastThen i i′ ((j : ℕ) → j < 2 ^ (n - k) → φ j ≤ φ′ j))))
+
+-- "The answer is the member that gives the table with fewest products, ..": no other that gives it, with "any coefficients", comes before it
+pub record IsAnswer (n k : ℕ) (f : ℕ → ℕ) (M i : ℕ) (φ c : ℕ → ℕ) : Type 0 where
+  pub member : Member n k M i φ
+  pub gives : Gives n M i φ c f
+  pub first : (M′ i′ : ℕ) (φ′ c′ : ℕ → ℕ) → Member n k M′ i′ φ′ → Gives n M′ i′ φ′ c′ f → NotAfter n k M i φ c M′ i′ φ′ c′
+
+-- An answer with its counts: "The answer is the member that gives the table with fewest products, then fewest literals, ..". The counts p
+-- and l are those of its own coefficients, every other member that gives the table costs at least as much, and none comes before it.
+pub record Minimal (n k : ℕ) (f : ℕ → ℕ) (M i : ℕ) (φ c : ℕ → ℕ) (p l : ℕ) : Type 0 where
+  pub member : Member n k M i φ
+  pub gives : Gives n M i φ c f
+  pub products-counted : p ≡ products n c
+  pub literals-counted : l ≡ literals n c
+  pub cheapest : (M′ i′ : ℕ) (φ′ c′ : ℕ → ℕ) → Member n k M′ i′ φ′ → Gives n M′ i′ φ′ c′ f
+      → (p ≤ products n c′) × (p ≡ products n c′ → l ≤ literals n c′)
+  pub ties : (M′ i′ : ℕ) (φ′ c′ : ℕ → ℕ) → Member n k M′ i′ φ′ → Gives n M′ i′ φ′ c′ f → NotAfter n k M i φ c M′ i′ φ′ c′
+
+-- ---- the answer as a function
+
+-- the function of the inputs of M that stands in the block j, once the inputs outside M are expanded under i; no φj has a part in it
+unfoldable pub blockFunction : ℕ → ℕ → (ℕ → ℕ) → (M i j : ℕ) → ℕ → ℕ
+blockFunction n k f M i j s = coefficient (n - k) (gather n (outside n M) i) (λ q. f (join n M q s)) j
+
+-- the coefficient of the term t in the member M, i, φ that gives f: that of its place, in the function of its block, under φj
+unfoldable pub memberCoefficient : ℕ → ℕ → (ℕ → ℕ) → (M i : ℕ) → (ℕ → ℕ) → ℕ → ℕ
+memberCoefficient n k f M i φ t = coefficient k (φ (block n M t)) (blockFunction n k f M i (block n M t)) (place n M t)
+
+-- what the block j costs under the block polarity φ
+unfoldable pub blockCharge : ℕ → ℕ → (ℕ → ℕ) → (M i j φ : ℕ) → ℕ
+blockCharge n k f M i j φ = sumBelow (2 ^ k) (λ r. counted (coefficient k φ (blockFunction n k f M i j) r) (weight (ones j + ones r)))
+
+-- "in each block the least φj" of those under which the block, by its charge, costs least
+unfoldable pub leastPolarity : ℕ → (ℕ → ℕ) → ℕ
+leastPolarity k charge = chosen (firstLeast (2 ^ k) (λ φ. true) charge)
+
+-- what M and i cost, by the charge of each block under each polarity: every block has its least polarity
+unfoldable pub pairCharge : ℕ → ℕ → (ℕ → ℕ → ℕ) → ℕ
+pairCharge n k charge = sumBelow (2 ^ (n - k)) (λ j. charge j (leastPolarity k (charge j)))
+
+-- M has "exactly k inputs", and i has "the bits of M zero"
+unfoldable pub validPair : ℕ → ℕ → (M i : ℕ) → Bool
+validPair n k M i = eqb (onesIn n M) k && eqb (gather n M i) 0
+
+-- the first least of the valid pairs, by the charge of each M, i, block and polarity: "least M, then least i" is the least M * 2 ^ n + i
+unfoldable pub leastPair : ℕ → ℕ → (ℕ → ℕ → Bool) → (ℕ → ℕ → ℕ → ℕ → ℕ) → ℕ
+leastPair n k valid charge =
+    chosen (firstLeast (2 ^ n * 2 ^ n) (λ x. valid (x / 2 ^ n) (x % 2 ^ n)) (λ x. pairCharge n k (charge (x / 2 ^ n) (x % 2 ^ n))))
+
+-- the answer's M and i, as one number
+unfoldable pub answerPair : ℕ → ℕ → (ℕ → ℕ) → ℕ
+answerPair n k f = leastPair n k (validPair n k) (blockCharge n k f)
+
+-- the answer's mixed set M
+unfoldable pub answerMixed : ℕ → ℕ → (ℕ → ℕ) → ℕ
+answerMixed n k f = answerPair n k f / 2 ^ n
+
+-- the answer's fixed polarity i
+unfoldable pub answerFixed : ℕ → ℕ → (ℕ → ℕ) → ℕ
+answerFixed n k f = answerPair n k f % 2 ^ n
+
+-- the answer's block polarity φj, and 0 where there is no block j
+unfoldable pub answerPolarity : ℕ → ℕ → (ℕ → ℕ) → ℕ → ℕ
+answerPolarity n k f j = only (ltb j (2 ^ (n - k))) (leastPolarity k (blockCharge n k f (answerMixed n k f) (answerFixed n k f) j))
+
+-- the answer's coefficient of the term t, "zero from 2^n on"
+unfoldable pub answerCoefficient : ℕ → ℕ → (ℕ → ℕ) → ℕ → ℕ
+answerCoefficient n k f t = only (ltb t (2 ^ n)) (memberCoefficient n k f (answerMixed n k f) (answerFixed n k f) (answerPolarity n k f) t)

@@ -1,0 +1,25 @@
+-- What an expansion of n inputs with the coefficients c costs: its products, its literals, and the two as one number.
+use Prim.Native.Nat.{ℕ, zero, suc, _+_, _^_}
+use lib.Count.{ones}
+use Rattle.numbers.specs.Sums.{sumBelow}
+
+-- x where the coefficient is not 0, and 0 where it is
+unfoldable pub counted : ℕ → ℕ → ℕ
+counted zero x = 0
+counted (suc c) x = x
+
+-- "Products are the terms with c[t] not 0", each counted once for all outputs
+unfoldable pub products : ℕ → (ℕ → ℕ) → ℕ
+products n c = sumBelow (2 ^ n) (λ t. counted (c t) 1)
+
+-- "literals are the bits set in those t, summed"
+unfoldable pub literals : ℕ → (ℕ → ℕ) → ℕ
+literals n c = sumBelow (2 ^ n) (λ t. counted (c t) (ones t))
+
+-- what a product of l literals weighs: "fewest products, then fewest literals", of which there are fewer than 4,096, as one number
+unfoldable pub weight : ℕ → ℕ
+weight l = 4096 + l
+
+-- the products' weights, summed: products * 4096 + literals (proofs/Costs, `charge-parts`)
+unfoldable pub charge : ℕ → (ℕ → ℕ) → ℕ
+charge n c = sumBelow (2 ^ n) (λ t. counted (c t) (weight (ones t)))

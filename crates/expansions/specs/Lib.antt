@@ -1,0 +1,7 @@
+pub mod Split
+pub mod Members
+pub mod Costs
+pub mod Least
+pub mod Answers
+pub mod BlockTable
+pub mod Charges

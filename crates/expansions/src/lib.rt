@@ -1,0 +1,2 @@
+// Document 01's class of expansions, in definitions and laws alone: members, what they cost, the order of answers, and the answer as a
+// function. The main property (proofs/Answers): the function's result is the member that gives the table and comes first, and the only one.

@@ -1,0 +1,90 @@
+-- The bits of a number: by the lowest bit and the rest, through an exclusive OR, and the bits of one number among those of another.
+use mathlib.Core.Path.{_≡_, refl, sym, ap, ap₂, _∙_, subst}
+use mathlib.Core.Bool.{Bool, true, false, _&&_}
+use Prim.Native.Nat.{ℕ, zero, suc, _+_, _*_, _/_, _%_, _^_, _<_, min}
+use native.Mathlib.Nat.{zero-div, div-one, pow-suc, mul-comm, div-div-eq-div-mul}
+use native.Mathlib.Omega.{arith}
+use lib.Arith.{bin-ind, digits-div, digits-mod}
+use lib.Bits.{bitXor, bitAnd, differ, and-step, xor-shr}
+use lib.Dec.{eqb, T, eqb→eq}
+use Rattle.numbers.specs.Bits.{bit, inside}
+use Rattle.numbers.proofs.Tests.{and-intro, and-left, and-right, eqb-of, eqb-same, eqb-not}
+use Rattle.numbers.proofs.Xor.{low-lt, xor-low}
+
+-- ---- bits
+
+pub bit-zero : (x : ℕ) → bit 0 x ≡ x % 2
+bit-zero x = ap (λ (y : ℕ). y % 2) (div-one x)
+
+pub bit-suc : (i x : ℕ) → bit (suc i) x ≡ bit i (x / 2)
+bit-suc i x = ap (λ (y : ℕ). y % 2) (ap (λ (y : ℕ). x / y) (pow-suc 2 i ∙ mul-comm (2 ^ i) 2) ∙ sym (div-div-eq-div-mul x 2 (2 ^ i)))
+
+pub bit-xor : (i a b : ℕ) → bit i (bitXor a b) ≡ differ (bit i a) (bit i b)
+bit-xor i a b = ap (λ (x : ℕ). x % 2) (xor-shr a b i) ∙ xor-low (a / 2 ^ i) (b / 2 ^ i)
+
+pub bit-lt : (i x : ℕ) → bit i x < 2
+bit-lt i x = low-lt (x / 2 ^ i)
+
+pub bit-of-zero : (i : ℕ) → bit i 0 ≡ 0
+bit-of-zero i = ap (λ (y : ℕ). y % 2) (zero-div (2 ^ i))
+
+-- ---- inside, by the lowest bit and the rest
+
+-- a digit that is 1 stands over a digit that is 1
+unfoldable pub covered : ℕ → ℕ → Bool
+covered zero x = true
+covered (suc b) x = eqb x 1
+
+and-digits : (s b x : ℕ) → b < 2 → bitAnd (s * 2 + b) x ≡ bitAnd s (x / 2) * 2 + min b (x % 2)
+and-digits s b x h = and-step (s * 2 + b) x ∙ rw (digits-div s h, digits-mod s h)
+
+pub inside-digits : (s b x : ℕ) → b < 2 → inside (s * 2 + b) x ≡ (covered b (x % 2) && inside s (x / 2))
+unfolding inside covered
+inside-digits s b x h = rw (and-digits s b x h) (go b (x % 2) h (low-lt x))
+  where
+    go : (b y : ℕ) → b < 2 → y < 2 → eqb (bitAnd s (x / 2) * 2 + min b y) (s * 2 + b) ≡ (covered b y && eqb (bitAnd s (x / 2)) s)
+    go zero y hb hy = eqb-same (bitAnd s (x / 2) * 2 + min 0 y) (s * 2 + 0) (bitAnd s (x / 2)) s (omega arith) (omega arith)
+    go (suc zero) zero hb hy = eqb-not (bitAnd s (x / 2) * 2 + 0) (s * 2 + 1) (omega arith)
+    go (suc zero) (suc zero) hb hy = eqb-same (bitAnd s (x / 2) * 2 + 1) (s * 2 + 1) (bitAnd s (x / 2)) s (omega arith) (omega arith)
+    go (suc zero) (suc (suc y)) hb hy = absurd (omega arith)
+    go (suc (suc b)) y hb hy = absurd (omega arith)
+
+pub inside-step : (t x : ℕ) → inside t x ≡ (covered (t % 2) (x % 2) && inside (t / 2) (x / 2))
+inside-step t x = let e : t ≡ t / 2 * 2 + t % 2 = omega arith in ap (λ (y : ℕ). inside y x) e ∙ inside-digits (t / 2) (t % 2) x (low-lt t)
+
+pub inside-zero : (x : ℕ) → inside 0 x ≡ true
+unfolding inside
+inside-zero x = refl
+
+covered-to : (b x : ℕ) → T (covered b x) → b ≡ 1 → x ≡ 1
+unfolding covered
+covered-to zero x t e = absurd (omega arith)
+covered-to (suc b) x t e = eqb→eq x 1 t
+
+covered-from : (b x : ℕ) → b < 2 → (b ≡ 1 → x ≡ 1) → T (covered b x)
+unfolding covered
+covered-from zero x h f = tt
+covered-from (suc zero) x h f = eqb-of x 1 (f refl)
+covered-from (suc (suc b)) x h f = absurd (omega arith)
+
+-- every bit of q is a bit of t
+pub inside-to : (q t : ℕ) → T (inside q t) → (i : ℕ) → bit i q ≡ 1 → bit i t ≡ 1
+inside-to =
+    bin-ind (λ (q : ℕ). (t : ℕ) → T (inside q t) → (i : ℕ) → bit i q ≡ 1 → bit i t ≡ 1)
+    (λ t h i e. absurd (omega (arith, bit-of-zero i)))
+    (λ q ih t h.
+    let k : T (covered (q % 2) (t % 2) && inside (q / 2) (t / 2)) = rw (inside-step q t) at h in
+    elim [
+      | zero ↦ λ e. bit-zero t ∙ covered-to (q % 2) (t % 2) (and-left (covered (q % 2) (t % 2)) (inside (q / 2) (t / 2)) k) (sym (bit-zero q) ∙ e)
+      | suc i ↦ λ e. bit-suc i t ∙ ih (t / 2) (and-right (covered (q % 2) (t % 2)) (inside (q / 2) (t / 2)) k) i (sym (bit-suc i q) ∙ e)
+    ])
+
+pub inside-from : (q t : ℕ) → ((i : ℕ) → bit i q ≡ 1 → bit i t ≡ 1) → T (inside q t)
+inside-from =
+    bin-ind (λ (q : ℕ). (t : ℕ) → ((i : ℕ) → bit i q ≡ 1 → bit i t ≡ 1) → T (inside q t))
+    (λ t f. rw (inside-zero t) tt)
+    (λ q ih t f.
+    rw (inside-step q t)
+    (and-intro (covered (q % 2) (t % 2)) (inside (q / 2) (t / 2))
+    (covered-from (q % 2) (t % 2) (low-lt q) (λ e. sym (bit-zero t) ∙ f 0 (bit-zero q ∙ e)))
+    (ih (t / 2) (λ i e. sym (bit-suc i t) ∙ f (suc i) (bit-suc i q ∙ e)))))

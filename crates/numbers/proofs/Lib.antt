@@ -1,0 +1,8 @@
+pub mod Tests
+pub mod Xor
+pub mod Bits
+pub mod Bytes
+pub mod Tables
+pub mod Shifts
+pub mod Sums
+pub mod Pack

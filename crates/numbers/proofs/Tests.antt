@@ -1,0 +1,71 @@
+-- Tests: two that follow from one another are one (`same-test`), tests joined by `_&&_` and `_||_`, and a number by a test.
+use mathlib.Core.Path.{_≡_, refl, subst}
+use mathlib.Core.Bool.{Bool, true, false, _&&_, _||_, true≢false, false≢true}
+use Prim.Native.Nat.{ℕ}
+use lib.Bits.{bitXor}
+use lib.Dec.{eqb, T, eqb→eq, eqb-refl}
+use Rattle.numbers.specs.Tests.{only}
+
+-- ---- tests
+
+-- two tests are one where each follows from the other
+pub same-test : (a b : Bool) → (T a → T b) → (T b → T a) → a ≡ b
+same-test true true f g = refl
+same-test true false f g = absurd (f tt)
+same-test false true f g = absurd (g tt)
+same-test false false f g = refl
+
+pub eqb-of : (a b : ℕ) → a ≡ b → T (eqb a b)
+eqb-of a b e = subst (λ (x : ℕ). T (eqb a x)) e (eqb-refl a)
+
+pub eqb-same : (a b c d : ℕ) → (a ≡ b → c ≡ d) → (c ≡ d → a ≡ b) → eqb a b ≡ eqb c d
+eqb-same a b c d f g = same-test (eqb a b) (eqb c d) (λ t. eqb-of c d (f (eqb→eq a b t))) (λ t. eqb-of a b (g (eqb→eq c d t)))
+
+pub eqb-not : (a b : ℕ) → (a ≡ b → ⊥) → eqb a b ≡ false
+eqb-not a b f = same-test (eqb a b) false (λ t. f (eqb→eq a b t)) (λ t. absurd t)
+
+pub and-intro : (a b : Bool) → T a → T b → T (a && b)
+and-intro true b x y = y
+and-intro false b x y = x
+
+pub and-left : (a b : Bool) → T (a && b) → T a
+and-left true b t = tt
+and-left false b t = t
+
+pub and-right : (a b : Bool) → T (a && b) → T b
+and-right true b t = t
+and-right false b t = absurd t
+
+-- ---- `only`
+
+pub only-and : (a b : Bool) (c : ℕ) → only (a && b) c ≡ only a (only b c)
+unfolding only
+only-and true b c = refl
+only-and false b c = refl
+
+pub only-and-r : (a b : Bool) (c : ℕ) → only (a && b) c ≡ only b (only a c)
+unfolding only
+only-and-r true b c = refl
+only-and-r false true c = refl
+only-and-r false false c = refl
+
+pub only-zero : (a : Bool) → only a 0 ≡ 0
+unfolding only
+only-zero true = refl
+only-zero false = refl
+
+pub only-xor : (a : Bool) (c d : ℕ) → only a (bitXor c d) ≡ bitXor (only a c) (only a d)
+unfolding only
+only-xor true c d = refl
+only-xor false c d = refl
+
+-- a map that keeps 0
+pub only-map : (h : ℕ → ℕ) → h 0 ≡ 0 → (a : Bool) (c : ℕ) → h (only a c) ≡ only a (h c)
+unfolding only
+only-map h z true c = refl
+only-map h z false c = z
+
+pub only-closed : (P : ℕ → Type 0) → P 0 → (a : Bool) (c : ℕ) → P c → P (only a c)
+unfolding only
+only-closed P z true c p = p
+only-closed P z false c p = z

@@ -1,0 +1,5 @@
+pub mod Tests
+pub mod Bits
+pub mod Bytes
+pub mod Sums
+pub mod Refusals

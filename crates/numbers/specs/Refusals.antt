@@ -1,0 +1,39 @@
+-- Document 01, "Why a call declines": what the calls judge alike. A refusal is its number, and 0 where there is none.
+use mathlib.Core.Bool.{Bool, true, false, _&&_}
+use mathlib.Core.List.{List}
+use Prim.Native.Nat.{ℕ, zero, suc, _≤_}
+use lib.Dec.{leb}
+
+-- what follows where the test passes, and the refusal's number where it fails
+abbrev pub unless : Bool → ℕ → ℕ → ℕ
+unless true number next = next
+unless false number next = number
+
+-- the first of two refusals, where it applies, and else the second: "The order is"
+abbrev pub orElse : ℕ → ℕ → ℕ
+orElse zero next = next
+orElse (suc x) next = suc x
+
+-- the filled bytes where there is no refusal, and the bytes as they were under one
+abbrev pub unlessRefused : ℕ → List ℕ → List ℕ → List ℕ
+unlessRefused zero filled before = filled
+unlessRefused (suc x) filled before = before
+
+-- "2. n is not 1 to 8. 3. m is not 1 to 8."
+unfoldable pub tableRefusal : ℕ → ℕ → ℕ
+tableRefusal n m = unless (leb 1 n && leb n 8) 2 (unless (leb 1 m && leb m 8) 3 0)
+
+-- and "4. k is above 3 or above n."
+unfoldable pub sizesRefusal : ℕ → ℕ → ℕ → ℕ
+sizesRefusal n m k = orElse (tableRefusal n m) (unless (leb k 3 && leb k n) 4 0)
+
+-- the sizes of a table that are not refused (proofs/refusals/Judging, `table-none`, `table-accepted`)
+pub record TableSized (n m : ℕ) : Type 0 where
+  pub inputs : (1 ≤ n) × (n ≤ 8)
+  pub outputs : (1 ≤ m) × (m ≤ 8)
+
+-- the sizes of a table and its mixed inputs that are not refused (`sizes-none`, `sizes-accepted`)
+pub record Sized (n m k : ℕ) : Type 0 where
+  pub inputs : (1 ≤ n) × (n ≤ 8)
+  pub outputs : (1 ≤ m) × (m ≤ 8)
+  pub mixed : (k ≤ 3) × (k ≤ n)

@@ -1,0 +1,63 @@
+// Document 01, "Why a call declines": what the calls judge alike. A refusal is its number, and 0 where there is none.
+ghost use mathlib.Core.Path.{_≡_};
+ghost use Prim.Native.Nat.{_^_};
+ghost use Rattle.numbers.specs.Bytes.{allBelow};
+ghost use Rattle.numbers.specs.Refusals.{tableRefusal, sizesRefusal};
+
+// The most inputs a table has, the most outputs, and the most mixed inputs.
+pub const MOST_INPUTS: usize = 8;
+pub const MOST_OUTPUTS: usize = 8;
+pub const MOST_MIXED: usize = 3;
+
+// The refusal of the sizes of a table: 2 where n is not 1 to 8, 3 where m is not, and 0 where both are.
+pub fn judge_table(n: usize, m: usize) -> usize
+    ensures { λ r. ⌜ r ≡ tableRefusal n m ⌝ }
+{
+    if n < 1 {
+        return 2;
+    }
+    if MOST_INPUTS < n {
+        return 2;
+    }
+    if m < 1 {
+        return 3;
+    }
+    if MOST_OUTPUTS < m {
+        return 3;
+    }
+    0
+}
+
+// The refusal of the sizes of a design: that of its table, then 4 where k is above 3 or above n.
+pub fn judge_sizes(n: usize, m: usize, k: usize) -> usize
+    ensures { λ r. ⌜ r ≡ sizesRefusal n m k ⌝ }
+{
+    let number = judge_table(n, m);
+    if number != 0 {
+        return number;
+    }
+    if MOST_MIXED < k {
+        return 4;
+    }
+    if n < k {
+        return 4;
+    }
+    0
+}
+
+// Whether no byte has a bit at m or above.
+pub fn within_outputs(m: usize, bytes: &[u8]) -> bool
+    ensures { λ r. ⌜ r ≡ allBelow (2 ^ m) (now (bytes .entry)) ⌝ }
+{
+    let mut seen: u8 = 0;
+    let mut q = 0;
+    while q < bytes.len() {
+        seen = seen | bytes[q];
+        q += 1;
+    }
+    if 8 <= m {
+        return true;
+    }
+    let limit: usize = 1 << m;
+    (seen as usize) < limit
+}
