@@ -1,17 +1,15 @@
 -- The coefficients of a table in one polarity: they exist, are the only ones and are inverse to the value (`value-coefficient`,
 -- `coefficient-unique`, `coefficient-value`); and what the search cites of them.
-use mathlib.Core.Path.{_≡_, refl, sym, ap, ap₂, _∙_, subst}
-use Prim.Native.Nat.{ℕ, zero, suc, _+_, _*_, _/_, _%_, _^_, _≤_, _<_}
-use native.Mathlib.Nat.{mod-eq-of-lt, zero-div, add-comm}
-use native.Mathlib.Omega.{arith}
-use lib.Arith.{lt-one}
+use mathlib.Core.Path.{_≡_, refl, sym, ap, _∙_}
+use Prim.Native.Nat.{ℕ, _+_, _/_, _%_, _^_, _≤_, _<_}
+use native.Mathlib.Nat.{mod-eq-of-lt, zero-div}
 use lib.Pow.{pow-pos}
 use lib.Bits.{bitXor, xor-lt, xor-shr, xor-mod, xor-comm}
 use Rattle.numbers.specs.Bits.{bit}
 use Rattle.algebra.specs.Terms.{holds, value}
 use Rattle.algebra.specs.Coefficients.{xorInside, coefficient}
 use Rattle.numbers.proofs.Xor.{xor-assoc, xor-cancel-r}
-use Rattle.algebra.proofs.Inside.{inside-none, inside-ext, inside-xor, inside-map, inside-closed, inside-twice, inside-smaller, inside-ignored, inside-missing}
+use Rattle.algebra.proofs.Inside.{inside-none, inside-ext, inside-map, inside-closed, inside-twice, inside-smaller, inside-ignored, inside-missing}
 use Rattle.algebra.proofs.Value.{value-unique}
 
 -- ---- the value in one polarity, and the coefficients, by xorInside

@@ -8,7 +8,7 @@ use native.Mathlib.Omega.{arith}
 use lib.Arith.{lt-one, digits-div, digits-mod, mod-mul}
 use lib.Pow.{pow-pos}
 use lib.Bits.{bitXor, xor-self, differ, xor-zero-r}
-use Rattle.numbers.specs.Sums.{foldBelow, xorBelow}
+use Rattle.numbers.specs.Sums.{foldBelow}
 use Rattle.numbers.specs.Bits.{bit, inside}
 use Rattle.numbers.specs.Tests.{only}
 use Rattle.algebra.specs.Coefficients.{xorInside}

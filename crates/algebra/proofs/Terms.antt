@@ -1,18 +1,17 @@
 -- The truth of a term at a point: by the lowest input and the rest, and in document 01's words (`holds-words`).
-use mathlib.Core.Path.{_≡_, refl, sym, ap, ap₂, _∙_, subst}
-use mathlib.Core.Bool.{Bool, true, false, _&&_}
+use mathlib.Core.Path.{_≡_, refl, sym, ap, _∙_}
+use mathlib.Core.Bool.{Bool, true, _&&_}
 use mathlib.Core.Logic.{_↔_}
-use Prim.Native.Nat.{ℕ, zero, suc, _+_, _-_, _*_, _/_, _%_, _^_, _<_, min}
-use native.Mathlib.Nat.{zero-div, add-zero}
+use Prim.Native.Nat.{ℕ, zero, suc, _+_, _-_, _*_, _/_, _%_, _^_, _<_}
+use native.Mathlib.Nat.{add-zero}
 use native.Mathlib.Omega.{arith}
-use lib.Arith.{lt-one, bin-ind, digits-div, digits-mod}
-use lib.Bits.{bitXor, bitAnd, differ, and-step, xor-zero-r}
-use lib.Dec.{eqb, T, eqb→eq, eqb-refl}
+use lib.Bits.{bitXor, differ, xor-zero-r}
+use lib.Dec.{eqb, T}
 use Rattle.numbers.specs.Bits.{bit, inside}
 use Rattle.algebra.specs.Terms.{literal, LiteralsTrue, holds}
 use Rattle.numbers.specs.Tests.{only}
-use Rattle.numbers.proofs.Xor.{low-lt, xor-half, xor-low, xor-digits}
-use Rattle.numbers.proofs.Bits.{bit-zero, bit-suc, bit-xor, inside-zero, covered, inside-to, inside-digits, inside-from}
+use Rattle.numbers.proofs.Xor.{low-lt, xor-half, xor-low}
+use Rattle.numbers.proofs.Bits.{bit-xor, inside-zero, covered, inside-to, inside-digits, inside-from}
 
 -- ---- a term's truth, by the lowest input and the rest
 

@@ -1,13 +1,12 @@
 -- The value of an expansion: linear in its coefficients, by the lowest input and the rest, and unique for every assignment of polarities
 -- to terms (`value-unique`).
 use mathlib.Core.Path.{_≡_, refl, sym, ap, ap₂, _∙_}
-use mathlib.Core.Bool.{Bool}
 use Prim.Native.Nat.{ℕ, zero, suc, _+_, _*_, _/_, _^_, _<_}
 use native.Mathlib.Omega.{arith}
 use lib.Bits.{bitXor, xor-zero-r, xor-self}
 use lib.Arith.{lt-one}
 use lib.Dec.{lit<}
-use Rattle.numbers.specs.Sums.{foldBelow, xorBelow}
+use Rattle.numbers.specs.Sums.{foldBelow}
 use Rattle.numbers.specs.Bits.{inside}
 use Rattle.algebra.specs.Terms.{holds, value}
 use Rattle.numbers.specs.Tests.{only}

@@ -1,7 +1,7 @@
 // The calls on n, m, w and two lent buffers. Each judges its arguments in document 01's order, refusals 2, 3, 7, 8 and 9, and under a
 // refusal changes no lent byte.
 ghost use mathlib.Core.Path.{_≡_};
-ghost use Rattle.algebra.specs.Calls.{refusal, Forward, Backward};
+ghost use Rattle.algebra.specs.Calls.{transformRefusal, Forward, Backward};
 use crate::transform::coefficients_into;
 use crate::transform::values_into;
 use numbers::refusals::judge_table;
@@ -15,7 +15,7 @@ pub enum Transformed {
 
 // The number of the first refusal that applies, and 0 where none does; `lent` is the length of the buffer to fill.
 fn first_refusal(n: usize, m: usize, w: usize, given: &[u8], lent: usize) -> usize
-    ensures { λ r. ⌜ r ≡ refusal n m w (now (given .entry)) lent ⌝ }
+    ensures { λ r. ⌜ r ≡ transformRefusal n m w (now (given .entry)) lent ⌝ }
 {
     let sizes = judge_table(n, m);
     if sizes != 0 {

@@ -2,12 +2,13 @@
 // The coefficient of t under w is the exclusive OR of the function over the points inside t, moved by w. So the forward transform
 // moves every point by w and then joins each byte with those inside it, by one step for each input; the backward one joins first.
 ghost use mathlib.Core.Path.{_≡_};
-ghost use Prim.Native.Nat.{ℕ, suc, _+_, _*_, _/_, _%_, _^_, _<_, _≤_};
+ghost use Prim.Native.Nat.{ℕ, suc, _+_, _%_, _^_, _<_, _≤_};
 ghost use lib.Bits.{bitXor};
 ghost use lib.ListN.{length};
 ghost use Rattle.numbers.specs.Bytes.{at, tabulate};
 ghost use Rattle.algebra.specs.Coefficients.{xorInside};
-ghost use Rattle.algebra.specs.Transform.{functionAt, RunsJoined, SteppedTo, fits, coefficientBytes, valueBytes};
+ghost use Rattle.algebra.specs.Transform.{functionAt, fits, coefficientBytes, valueBytes};
+ghost use Rattle.algebra.specs.inner.Steps.{RunsJoined, SteppedTo};
 ghost use Rattle.algebra.specs.Terms.{value};
 
 // Joins each of the `size` bytes from `base + size` on with the byte `size` places before it.

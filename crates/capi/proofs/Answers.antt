@@ -3,6 +3,6 @@ use mathlib.Core.Path.{_≡_, ap, subst, _∙_}
 use mathlib.Core.List.{List}
 use Prim.Native.Nat.{ℕ}
 
-pub answer-decided : {A : Type 0} (numbers : A → List ℕ) (P : A → Type 0) (returned decided : A) (told : List ℕ)
-    → returned ≡ decided → P returned → told ≡ numbers returned → P decided × (told ≡ numbers decided)
-answer-decided numbers P returned decided told e p t = (subst P e p, t ∙ ap numbers e)
+pub answer-decided : {A : Type 0} (tell : A → List ℕ) (P : A → Type 0) (returned decided : A) (told : List ℕ)
+    → returned ≡ decided → P returned → told ≡ tell returned → P decided × (told ≡ tell decided)
+answer-decided tell P returned decided told e p t = (subst P e p, t ∙ ap tell e)

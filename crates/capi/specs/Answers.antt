@@ -3,7 +3,7 @@ use mathlib.Core.List.{List, [], _∷_}
 use Prim.Native.Nat.{ℕ}
 use lib.ListN.{length}
 use Rattle.numbers.specs.Bytes.{at}
-use Rattle.algebra.specs.Calls.{refusal, answered}
+use Rattle.algebra.specs.Calls.{transformRefusal, transformed}
 use Rattle.algebra.specs.declared.calls.Transformed.{Transformed}
 use Rattle.algebra.specs.declared.calls.Transformed.the-variants.{Done, Refused}
 use Rattle.search.specs.Calls as minimising
@@ -16,16 +16,16 @@ use Rattle.text.specs.declared.compile.Compiled.the-variants as compiled
 
 -- the answer that "Why a call declines" decides for n, m, w, the given bytes and the length of the buffer to fill
 abbrev pub decided : ℕ → ℕ → ℕ → List ℕ → ℕ → Transformed
-decided n m w given lent = answered (refusal n m w given lent)
+decided n m w given lent = transformed (transformRefusal n m w given lent)
 
 -- "A refusal returns its number and the line"; 0 and 0 where the call was carried out
-unfoldable pub numbers : Transformed → List ℕ
-numbers Done = 0 ∷ 0 ∷ []
-numbers (Refused number line) = number ∷ line ∷ []
+unfoldable pub transformNumbers : Transformed → List ℕ
+transformNumbers Done = 0 ∷ 0 ∷ []
+transformNumbers (Refused number line) = number ∷ line ∷ []
 
 -- the answer that is decided for n, m, k, the table and the lengths of the two buffers to fill
 abbrev pub decidedMinimum : ℕ → ℕ → ℕ → List ℕ → ℕ → ℕ → Minimised
-decidedMinimum n m k table coefficients blocks = minimising.answered (minimising.refusal n m k table coefficients blocks) (answerExpansion n k (at table))
+decidedMinimum n m k table coefficients blocks = minimising.minimised (minimising.minimiseRefusal n m k table coefficients blocks) (answerExpansion n k (at table))
 
 -- "returns M, i, products and literals", after the number and the line, all 0 under a refusal
 unfoldable pub minimumNumbers : Minimised → List ℕ

@@ -2,12 +2,12 @@
 ghost use mathlib.Core.Path.{_≡_};
 ghost use lib.ListN.{length};
 ghost use Rattle.algebra.specs.Calls.{Forward, Backward};
-ghost use Rattle.capi.specs.Answers.{decided, numbers};
+ghost use Rattle.capi.specs.Answers.{decided, transformNumbers};
 use algebra::calls::Transformed;
 
 // The numbers that stand for a transform call's answer.
 fn answer_numbers(r: Transformed) -> [u64; 2]
-    ensures { λ a. ⌜ a ≡ numbers r ⌝ }
+    ensures { λ a. ⌜ a ≡ transformNumbers r ⌝ }
 {
     match r {
         Transformed::Done => [0, 0],
@@ -28,7 +28,7 @@ pub extern "C" fn mipaldoz_forward(
     answer: &mut [u64; 2],
 )
     ensures bytes { λ _. ⌜ Forward n m w (now (table .entry)) (now (coefficients .entry)) (now (coefficients .exit)) (decided n m w (now (table .entry)) (length (now (coefficients .entry)))) ⌝ }
-    ensures answer { λ _. ⌜ now (answer .exit) ≡ numbers (decided n m w (now (table .entry)) (length (now (coefficients .entry)))) ⌝ }
+    ensures answer { λ _. ⌜ now (answer .exit) ≡ transformNumbers (decided n m w (now (table .entry)) (length (now (coefficients .entry)))) ⌝ }
 {
     *answer = answer_numbers(algebra::calls::forward(n, m, w, table, coefficients));
 }
@@ -45,7 +45,7 @@ pub extern "C" fn mipaldoz_backward(
     answer: &mut [u64; 2],
 )
     ensures bytes { λ _. ⌜ Backward n m w (now (coefficients .entry)) (now (table .entry)) (now (table .exit)) (decided n m w (now (coefficients .entry)) (length (now (table .entry)))) ⌝ }
-    ensures answer { λ _. ⌜ now (answer .exit) ≡ numbers (decided n m w (now (coefficients .entry)) (length (now (table .entry)))) ⌝ }
+    ensures answer { λ _. ⌜ now (answer .exit) ≡ transformNumbers (decided n m w (now (coefficients .entry)) (length (now (table .entry)))) ⌝ }
 {
     *answer = answer_numbers(algebra::calls::backward(n, m, w, coefficients, table));
 }

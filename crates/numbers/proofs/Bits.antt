@@ -1,6 +1,6 @@
 -- The bits of a number: by the lowest bit and the rest, through an exclusive OR, and the bits of one number among those of another.
-use mathlib.Core.Path.{_≡_, refl, sym, ap, ap₂, _∙_, subst}
-use mathlib.Core.Bool.{Bool, true, false, _&&_}
+use mathlib.Core.Path.{_≡_, refl, sym, ap, _∙_}
+use mathlib.Core.Bool.{Bool, true, _&&_}
 use Prim.Native.Nat.{ℕ, zero, suc, _+_, _*_, _/_, _%_, _^_, _<_, min}
 use native.Mathlib.Nat.{zero-div, div-one, pow-suc, mul-comm, div-div-eq-div-mul}
 use native.Mathlib.Omega.{arith}

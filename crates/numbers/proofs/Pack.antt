@@ -12,7 +12,6 @@ use lib.Bits.{bitOr, or-shr, or-mod}
 use lib.Count.{onesIn, ones, ones-step}
 use Rattle.numbers.specs.Sums.{foldBelow, sumBelow}
 use Rattle.numbers.specs.Bits.{bit, pack}
-use Rattle.numbers.proofs.Xor.{low-lt}
 use Rattle.numbers.proofs.Bits.{bit-zero, bit-suc, bit-lt}
 use Rattle.numbers.proofs.Sums.{fold-ext}
 

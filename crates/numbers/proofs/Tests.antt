@@ -1,6 +1,6 @@
 -- Tests: two that follow from one another are one (`same-test`), tests joined by `_&&_` and `_||_`, and a number by a test.
 use mathlib.Core.Path.{_≡_, refl, subst}
-use mathlib.Core.Bool.{Bool, true, false, _&&_, _||_, true≢false, false≢true}
+use mathlib.Core.Bool.{Bool, true, false, _&&_}
 use Prim.Native.Nat.{ℕ}
 use lib.Bits.{bitXor}
 use lib.Dec.{eqb, T, eqb→eq, eqb-refl}

@@ -1,9 +1,9 @@
 -- Laws of the exclusive OR of numbers, bit by bit, that the kit's lib.Bits lacks.
-use mathlib.Core.Path.{_≡_, refl, sym, ap, ap₂, _∙_}
+use mathlib.Core.Path.{_≡_, refl, sym, ap, _∙_}
 use Prim.Native.Nat.{ℕ, zero, suc, _+_, _*_, _/_, _%_, _<_}
 use native.Mathlib.Omega.{arith}
 use lib.Arith.{bin-ind, digits-div, digits-mod}
-use lib.Bits.{bitXor, differ, xor-step, xor-comm, xor-zero-r, xor-self}
+use lib.Bits.{bitXor, differ, xor-step, xor-zero-r, xor-self}
 use lib.Dec.{lit<}
 
 -- ---- digits

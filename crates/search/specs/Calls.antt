@@ -16,24 +16,24 @@ use Rattle.search.specs.declared.calls.Minimised.the-variants.{Found, Re
 -- "Why a call declines", for the minimising call: the number of the first of refusals 2, 3, 4, 8, 9 that applies, and 0 where none does.
 -- 2: n is not 1 to 8; 3: m is not 1 to 8; 4: k is above 3 or above n; 8: a lent table, coefficient or block buffer has another length
 -- than 2^n, 2^n and 2^(n−k); 9: a byte of the given table has a bit at m or above set.
-unfoldable pub refusal : ℕ → ℕ → ℕ → List ℕ → ℕ → ℕ → ℕ
-refusal n m k table coefficients blocks =
+unfoldable pub minimiseRefusal : ℕ → ℕ → ℕ → List ℕ → ℕ → ℕ → ℕ
+minimiseRefusal n m k table coefficients blocks =
     orElse (sizesRefusal n m k)
     (unless (eqb (length table) (2 ^ n) && (eqb coefficients (2 ^ n) && eqb blocks (2 ^ (n - k)))) 8
     (unless (allBelow (2 ^ m) table) 9 0))
 
 -- the answer that stands for a refusal's number: "0 .. for calls without text" is the line; with no refusal the call "returns M, i,
 -- products and literals"
-unfoldable pub answered : ℕ → Expansion → Minimised
-answered zero e = Found (e .mixed) (e .fixed) (e .products) (e .literals)
-answered (suc x) e = Refused (suc x) 0
+unfoldable pub minimised : ℕ → Expansion → Minimised
+minimised zero e = Found (e .mixed) (e .fixed) (e .products) (e .literals)
+minimised (suc x) e = Refused (suc x) 0
 
 -- "The binary minimising call takes n, m, k and a table. It fills 2^n coefficient bytes and 2^(n−k) block bytes, and returns M, i, products
 -- and literals." The two buffers hold c and b when it is called, and c′ and b′ when it returns.
 pub record Minimise (n m k : ℕ) (table c c′ b b′ : List ℕ) (r : Minimised) : Type 0 where
-  pub answer : r ≡ answered (refusal n m k table (length c) (length b)) (answerExpansion n k (at table))
-  pub coefficients : c′ ≡ unlessRefused (refusal n m k table (length c) (length b)) (tabulate (2 ^ n) (answerCoefficient n k (at table))) c
-  pub blocks : b′ ≡ unlessRefused (refusal n m k table (length c) (length b)) (tabulate (2 ^ (n - k)) (answerPolarity n k (at table))) b
+  pub answer : r ≡ minimised (minimiseRefusal n m k table (length c) (length b)) (answerExpansion n k (at table))
+  pub coefficients : c′ ≡ unlessRefused (minimiseRefusal n m k table (length c) (length b)) (tabulate (2 ^ n) (answerCoefficient n k (at table))) c
+  pub blocks : b′ ≡ unlessRefused (minimiseRefusal n m k table (length c) (length b)) (tabulate (2 ^ (n - k)) (answerPolarity n k (at table))) b
   -- the returned numbers and the bytes now in the buffers are a member that gives the table at every point, and no member comes before it
   pub meaning : (M i p l : ℕ) → r ≡ Found M i p l → Minimal n k (at table) M i (at b′) (at c′) p l
   -- "bits m to 7 zero"

@@ -4,7 +4,7 @@ ghost use mathlib.Core.Path.{_≡_};
 ghost use Prim.Native.Nat.{_≤_};
 ghost use lib.ListN.{length};
 ghost use Rattle.numbers.specs.Bytes.{at, tabulate};
-ghost use Rattle.search.specs.Calls.{refusal, Minimise};
+ghost use Rattle.search.specs.Calls.{minimiseRefusal, Minimise};
 use crate::search::search;
 use numbers::refusals::judge_sizes;
 use numbers::refusals::within_outputs;
@@ -33,7 +33,7 @@ fn first_refusal(
     coefficients: usize,
     blocks: usize,
 ) -> usize
-    ensures { λ r. ⌜ r ≡ refusal n m k (now (table .entry)) coefficients blocks ⌝ }
+    ensures { λ r. ⌜ r ≡ minimiseRefusal n m k (now (table .entry)) coefficients blocks ⌝ }
 {
     let sizes = judge_sizes(n, m, k);
     if sizes != 0 {

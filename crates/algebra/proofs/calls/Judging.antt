@@ -9,7 +9,7 @@ use Rattle.numbers.specs.Bytes.{allBelow}
 use Rattle.numbers.specs.Refusals.{tableRefusal, TableSized}
 use Rattle.numbers.proofs.Tests.{and-left, and-right}
 use Rattle.numbers.proofs.refusals.Judging.{passed, or-else-none, table-none}
-use Rattle.algebra.specs.Calls.{refusal}
+use Rattle.algebra.specs.Calls.{transformRefusal}
 
 -- every test has passed
 pub record Accepted (n m w : ℕ) (given : List ℕ) (lent : ℕ) : Type 0 where
@@ -19,8 +19,8 @@ pub record Accepted (n m w : ℕ) (given : List ℕ) (lent : ℕ) : Type 0 where
   pub lent-long : lent ≡ 2 ^ n
   pub clean : T (allBelow (2 ^ m) given)
 
-pub refusal-none : (n m w : ℕ) (given : List ℕ) (lent : ℕ) → refusal n m w given lent ≡ 0 → Accepted n m w given lent
-unfolding refusal
+pub refusal-none : (n m w : ℕ) (given : List ℕ) (lent : ℕ) → transformRefusal n m w given lent ≡ 0 → Accepted n m w given lent
+unfolding transformRefusal
 refusal-none n m w given lent e =
     let a = or-else-none (tableRefusal n m) _ e in
     let c = passed (ltb w (2 ^ n)) 6 _ (a .1) in

@@ -1,8 +1,8 @@
 -- What the calls promise, from the transforms' bytes: `forward-done`, `backward-done`, and the refusals.
-use mathlib.Core.Path.{_≡_, refl, sym, ap, ap₂, _∙_}
-use mathlib.Core.Bool.{Bool, true, false, _&&_}
+use mathlib.Core.Path.{_≡_, refl, sym, ap, _∙_}
+use mathlib.Core.Bool.{true}
 use mathlib.Core.List.{List}
-use Prim.Native.Nat.{ℕ, zero, suc, _+_, _*_, _/_, _%_, _^_, _≤_, _<_}
+use Prim.Native.Nat.{ℕ, zero, suc, _^_, _<_}
 use native.Mathlib.Nat.{mod-self, mod-eq-of-lt, div-eq-of-lt, zero-mul, zero-add}
 use native.Mathlib.Omega.{arith}
 use borrow.Author.Tests.{le-leb, lt-ltb, eq-eqb}
@@ -12,8 +12,7 @@ use Rattle.numbers.specs.Bytes.{at, tabulate}
 use Rattle.algebra.specs.Terms.{value}
 use Rattle.algebra.specs.Coefficients.{coefficient}
 use Rattle.algebra.specs.Transform.{functionAt, fits, coefficientBytes, valueBytes}
-use Rattle.algebra.specs.Calls.{refusal, answered, Forward, Backward}
-use Rattle.algebra.specs.declared.calls.Transformed.{Transformed}
+use Rattle.algebra.specs.Calls.{transformRefusal, transformed, Forward, Backward}
 use Rattle.algebra.specs.declared.calls.Transformed.the-variants.{Done, Refused}
 use Rattle.numbers.proofs.Bytes.{at-tabulate, tabulate-ext}
 use Rattle.algebra.proofs.Value.{value-ext}
@@ -46,9 +45,9 @@ values-one n m w coefficients before a = rw (accepted-fits n m w coefficients be
 
 -- ---- carried out
 
-pub forward-done : (n m w : ℕ) (table before after : List ℕ) → refusal n m w table (length before) ≡ 0 → after ≡ coefficientBytes n w table before
+pub forward-done : (n m w : ℕ) (table before after : List ℕ) → transformRefusal n m w table (length before) ≡ 0 → after ≡ coefficientBytes n w table before
     → Forward n m w table before after Done
-unfolding answered
+unfolding transformed
 forward-done n m w table before after e b =
     record {
       answer = rw e;
@@ -66,9 +65,9 @@ forward-done n m w table before after e b =
     each : (t : ℕ) → t < 2 ^ n → at after t ≡ coefficient n w (at table) t
     each t h = ap (λ (x : List ℕ). at x t) filled ∙ at-tabulate (2 ^ n) (coefficient n w (at table)) t h
 
-pub backward-done : (n m w : ℕ) (coefficients before after : List ℕ) → refusal n m w coefficients (length before) ≡ 0 → after ≡ valueBytes n w coefficients before
+pub backward-done : (n m w : ℕ) (coefficients before after : List ℕ) → transformRefusal n m w coefficients (length before) ≡ 0 → after ≡ valueBytes n w coefficients before
     → Backward n m w coefficients before after Done
-unfolding answered
+unfolding transformed
 backward-done n m w coefficients before after e b =
     record {
       answer = rw e;
@@ -88,15 +87,15 @@ backward-done n m w coefficients before after e b =
 
 -- ---- declined
 
-answered-refused : (x : ℕ) → (x ≡ 0 → ⊥) → answered x ≡ Refused x 0
-unfolding answered
+answered-refused : (x : ℕ) → (x ≡ 0 → ⊥) → transformed x ≡ Refused x 0
+unfolding transformed
 answered-refused zero h = absurd (h refl)
 answered-refused (suc x) h = refl
 
 refused-not-done : {A : Type 0} (x : ℕ) → Refused x 0 ≡ Done → A
 refused-not-done x e = let z : _≡_ {A = ℕ} 0 1 = cc in absurd (omega arith)
 
-pub forward-refused : (n m w : ℕ) (table before : List ℕ) (x : ℕ) → x ≡ refusal n m w table (length before) → (x ≡ 0 → ⊥) → Forward n m w table before before (Refused x 0)
+pub forward-refused : (n m w : ℕ) (table before : List ℕ) (x : ℕ) → x ≡ transformRefusal n m w table (length before) → (x ≡ 0 → ⊥) → Forward n m w table before before (Refused x 0)
 forward-refused n m w table before x e h =
     record {
       answer = rw (← e) (sym (answered-refused x h));
@@ -105,7 +104,7 @@ forward-refused n m w table before x e h =
       outputs = λ r. refused-not-done x r;
     }
 
-pub backward-refused : (n m w : ℕ) (coefficients before : List ℕ) (x : ℕ) → x ≡ refusal n m w coefficients (length before) → (x ≡ 0 → ⊥) → Backward n m w coefficients before before (Refused x 0)
+pub backward-refused : (n m w : ℕ) (coefficients before : List ℕ) (x : ℕ) → x ≡ transformRefusal n m w coefficients (length before) → (x ≡ 0 → ⊥) → Backward n m w coefficients before before (Refused x 0)
 backward-refused n m w coefficients before x e h =
     record {
       answer = rw (← e) (sym (answered-refused x h));

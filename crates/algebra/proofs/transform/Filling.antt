@@ -1,15 +1,15 @@
 -- The two total transforms: the bytes moved by w and joined are the coefficients (`coefficients-filled`), joined and then moved are the
 -- values (`values-filled`).
-use mathlib.Core.Path.{_≡_, refl, sym, ap, ap₂, _∙_}
-use mathlib.Core.Bool.{Bool, true, false, _&&_}
+use mathlib.Core.Path.{_≡_, refl, sym, ap, _∙_}
+use mathlib.Core.Bool.{true, _&&_}
 use mathlib.Core.List.{List}
-use Prim.Native.Nat.{ℕ, zero, suc, _+_, _*_, _/_, _%_, _^_, _≤_, _<_}
-use native.Mathlib.Nat.{div-add-mod', mod-lt, mod-eq-of-lt, div-eq-of-lt, add-mul-div-right, zero-mul, zero-add, mul-mod-left}
+use Prim.Native.Nat.{ℕ, _+_, _*_, _/_, _%_, _^_, _≤_, _<_}
+use native.Mathlib.Nat.{div-add-mod', mod-lt, mod-eq-of-lt, div-eq-of-lt, zero-mul, zero-add, mul-mod-left}
 use native.Mathlib.Omega.{arith}
 use lib.Dec.{T, leb, ltb, eqb, leb→le, ltb→lt, eqb→eq}
-use lib.Pow.{pow-pos, pow-mono, high}
+use lib.Pow.{pow-pos, pow-mono}
 use lib.ListN.{length}
-use lib.Bits.{bitXor, xor-lt, xor-block, xor-zero-r, xor-comm}
+use lib.Bits.{bitXor, xor-lt, xor-block, xor-zero-r}
 use Rattle.numbers.specs.Bytes.{at, tabulate}
 use Rattle.algebra.specs.Terms.{value}
 use Rattle.algebra.specs.Coefficients.{xorInside, coefficient}

@@ -3,7 +3,7 @@
 use mathlib.Core.Path.{_≡_, refl, sym, ap, ap₂, _∙_, fun-ext}
 use mathlib.Core.List.{List}
 use Prim.Native.Nat.{ℕ, zero, suc, _+_, _-_, _*_, _/_, _%_, _^_, _≤_, _<_}
-use native.Mathlib.Nat.{div-add-mod', pow-suc, mul-comm, add-zero, div-one, mod-one, mul-one, zero-mod, div-div-eq-div-mul, div-eq-of-lt}
+use native.Mathlib.Nat.{div-add-mod', pow-suc, mul-comm, add-zero, div-one, zero-mod, div-div-eq-div-mul, div-eq-of-lt}
 use native.Mathlib.Decide.{decLe}
 use native.Mathlib.Omega.{arith}
 use native.Mathlib.Numerals.{add-one}
@@ -14,11 +14,17 @@ use lib.Bits.{bitXor, xor-comm}
 use Rattle.numbers.specs.Bytes.{at, tabulate}
 use Rattle.numbers.specs.Bits.{bit}
 use Rattle.algebra.specs.Coefficients.{xorInside}
-use Rattle.algebra.specs.Transform.{functionAt, joined, stepped, steps, SteppedTo}
+use Rattle.algebra.specs.Transform.{functionAt}
+use Rattle.algebra.specs.inner.Steps.{joined, stepped, SteppedTo}
 use Rattle.numbers.proofs.Xor.{low-lt}
 use Rattle.numbers.proofs.Bits.{bit-zero, bit-suc}
 use Rattle.algebra.proofs.Inside.{inside-none, inside-even, inside-odd, inside-ext, inside-xor, evens, odds}
 use Rattle.numbers.proofs.Bytes.{is-table}
+
+-- the steps for the inputs 0 to n - 1, one after the other
+unfoldable pub steps : ℕ → (ℕ → ℕ) → ℕ → ℕ
+steps zero g = g
+steps (suc n) g = stepped n (steps n g)
 
 -- ---- by the lowest input and the rest
 

@@ -1,26 +1,19 @@
 -- The steps of the transform in place: runs of bytes joined, a step done run by run, and all the steps (`steps-inside`: they join each byte
 -- with those inside it, function by function).
-use mathlib.Core.Path.{_≡_, refl, sym, ap, ap₂, _∙_, subst, fun-ext}
-use mathlib.Core.Logic.{_≢_}
+use mathlib.Core.Path.{_≡_, refl, ap, ap₂, _∙_}
 use mathlib.Core.List.{List}
-use Prim.Native.Nat.{ℕ, zero, suc, _+_, _-_, _*_, _/_, _%_, _^_, _≤_, _<_}
-use native.Mathlib.Nat.{div-add-mod', pow-suc, add-zero, add-mul, suc-mul, zero-mod, add-mod-right, mul-le-mul-right}
+use Prim.Native.Nat.{ℕ, suc, _+_, _-_, _*_, _/_, _%_, _^_, _≤_, _<_}
+use native.Mathlib.Nat.{div-add-mod', pow-suc, add-mul, suc-mul, zero-mod, add-mod-right, mul-le-mul-right}
 use native.Mathlib.Decide.{ℕ-discrete, decLt}
 use native.Mathlib.Omega.{arith}
-use native.Mathlib.Numerals.{add-one}
-use lib.Arith.{digits-div, digits-mod, mod-mul}
-use lib.Pow.{pow-pos, high}
+use lib.Pow.{high}
 use lib.ListN.{length, set, length-set}
-use lib.Bits.{bitXor, xor-comm}
-use Rattle.numbers.specs.Bytes.{at, tabulate}
+use lib.Bits.{bitXor}
+use Rattle.numbers.specs.Bytes.{at}
 use Rattle.numbers.specs.Bits.{bit}
-use Rattle.algebra.specs.Coefficients.{xorInside}
-use Rattle.algebra.specs.Transform.{functionAt, joined, stepped, steps, RunsJoined, SteppedTo}
+use Rattle.algebra.specs.inner.Steps.{joined, stepped, RunsJoined, SteppedTo}
 use Rattle.numbers.proofs.Shifts.{one-shifted}
-use Rattle.numbers.proofs.Xor.{low-lt}
-use Rattle.numbers.proofs.Bits.{bit-suc}
-use Rattle.algebra.proofs.Inside.{inside-none, inside-even, inside-odd, inside-ext, inside-xor, evens, odds}
-use Rattle.numbers.proofs.Bytes.{is-table, at-set, at-set-other}
+use Rattle.numbers.proofs.Bytes.{at-set, at-set-other}
 
 -- ---- runs
 

@@ -1,5 +1,5 @@
 -- What a refusal's number of 0 says: every test has passed, and the sizes are document 01's (`table-none`, `sizes-none`); and back.
-use mathlib.Core.Path.{_≡_, refl, _∙_}
+use mathlib.Core.Path.{_≡_, refl}
 use mathlib.Core.Bool.{Bool, true, false, _&&_}
 use mathlib.Core.List.{List}
 use Prim.Native.Nat.{ℕ, zero, suc, _≤_}

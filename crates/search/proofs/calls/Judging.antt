@@ -13,17 +13,17 @@ use Rattle.numbers.specs.Bytes.{allBelow}
 use Rattle.numbers.specs.Refusals.{unless, sizesRefusal, Sized}
 use Rattle.numbers.proofs.Tests.{and-left, and-right}
 use Rattle.numbers.proofs.refusals.Judging.{passed, or-else-none, sizes-none, sizes-accepted}
-use Rattle.search.specs.Calls.{refusal}
+use Rattle.search.specs.Calls.{minimiseRefusal}
 
-pub refusal-lengths : (n m k : ℕ) (table : List ℕ) (coefficients blocks : ℕ) → Sized n m k → refusal n m k table coefficients blocks
+pub refusal-lengths : (n m k : ℕ) (table : List ℕ) (coefficients blocks : ℕ) → Sized n m k → minimiseRefusal n m k table coefficients blocks
     ≡ unless (eqb (length table) (2 ^ n) && (eqb coefficients (2 ^ n) && eqb blocks (2 ^ (n - k)))) 8 (unless (allBelow (2 ^ m) table) 9 0)
-unfolding refusal
+unfolding minimiseRefusal
 refusal-lengths n m k table coefficients blocks b =
     rw (sizes-accepted n m k b)
 
 -- where the lengths are right too, only the bytes can
 pub refusal-bytes : (n m k : ℕ) (table : List ℕ) (coefficients blocks : ℕ) → Sized n m k → length table ≡ 2 ^ n → coefficients ≡ 2 ^ n → blocks ≡ 2 ^ (n - k)
-    → refusal n m k table coefficients blocks ≡ unless (allBelow (2 ^ m) table) 9 0
+    → minimiseRefusal n m k table coefficients blocks ≡ unless (allBelow (2 ^ m) table) 9 0
 refusal-bytes n m k table coefficients blocks b l c j =
     refusal-lengths n m k table coefficients blocks b ∙ rw (eq-eqb (length table) (2 ^ n) l, eq-eqb coefficients (2 ^ n) c, eq-eqb blocks (2 ^ (n - k)) j)
 
@@ -35,9 +35,9 @@ pub record Accepted (n m k : ℕ) (table : List ℕ) (coefficients blocks : ℕ)
   pub blocks-long : blocks ≡ 2 ^ (n - k)
   pub clean : T (allBelow (2 ^ m) table)
 
-pub refusal-none : (n m k : ℕ) (table : List ℕ) (coefficients blocks : ℕ) → refusal n m k table coefficients blocks ≡ 0
+pub refusal-none : (n m k : ℕ) (table : List ℕ) (coefficients blocks : ℕ) → minimiseRefusal n m k table coefficients blocks ≡ 0
     → Accepted n m k table coefficients blocks
-unfolding refusal
+unfolding minimiseRefusal
 refusal-none n m k table coefficients blocks e =
     let a = or-else-none (sizesRefusal n m k) _ e in
     let d = passed (eqb (length table) (2 ^ n) && (eqb coefficients (2 ^ n) && eqb blocks (2 ^ (n - k)))) 7 _ (a .1) in

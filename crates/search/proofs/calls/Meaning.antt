@@ -13,7 +13,7 @@ use Rattle.numbers.proofs.refusals.Outputs.{below-at}
 use Rattle.numbers.proofs.refusals.Judging.{kept}
 use Rattle.expansions.specs.Answers.{Minimal, answerPolarity, answerCoefficient}
 use Rattle.search.specs.Expansion.{answerExpansion}
-use Rattle.search.specs.Calls.{refusal, answered, Minimise}
+use Rattle.search.specs.Calls.{minimiseRefusal, minimised, Minimise}
 use Rattle.search.specs.declared.expansion.Expansion.{Expansion}
 use Rattle.search.specs.declared.calls.Minimised.the-variants.{Found, Refused}
 use Rattle.expansions.proofs.Answers.{answer-minimal, answer-coefficient-lt}
@@ -47,10 +47,10 @@ module _ (n m k : ℕ) (table c b : List ℕ) (a : Accepted n m k table (length 
       rw (ap (λ (g : ℕ → ℕ). g t) (at-coefficients n k (at table) (2 ^ n) (omega arith)))
       (answer-coefficient-lt n k (at table) (a .sized .mixed .1) m (λ p l. below-at (2 ^ m) table (pow-pos m) (a .clean) p) t)
 
-pub minimise-found : (n m k : ℕ) (table c c′ b b′ : List ℕ) (e : Expansion) → refusal n m k table (length c) (length b) ≡ 0
+pub minimise-found : (n m k : ℕ) (table c c′ b b′ : List ℕ) (e : Expansion) → minimiseRefusal n m k table (length c) (length b) ≡ 0
     → e ≡ answerExpansion n k (at table) → c′ ≡ tabulate (length c) (at (e .coefficients)) → b′ ≡ tabulate (length b) (at (e .blocks))
     → Minimise n m k table c c′ b b′ (Found (e .mixed) (e .fixed) (e .products) (e .literals))
-unfolding answered
+unfolding minimised
 minimise-found n m k table c c′ b b′ e none is copied-c copied-b =
     record {
       answer = rw (none, is);
@@ -84,15 +84,15 @@ minimise-found n m k table c c′ b b′ e none is copied-c copied-b =
 
 -- ---- declined
 
-answered-refused : (x : ℕ) (e : Expansion) → (x ≡ 0 → ⊥) → answered x e ≡ Refused x 0
-unfolding answered
+answered-refused : (x : ℕ) (e : Expansion) → (x ≡ 0 → ⊥) → minimised x e ≡ Refused x 0
+unfolding minimised
 answered-refused zero e h = absurd (h refl)
 answered-refused (suc x) e h = refl
 
 refused-not-found : {A : Type 0} (x M i p l : ℕ) → Refused x 0 ≡ Found M i p l → A
 refused-not-found x M i p l e = let z : _≡_ {A = ℕ} 0 1 = cc in absurd (omega arith)
 
-pub minimise-refused : (n m k : ℕ) (table c b : List ℕ) (x : ℕ) → x ≡ refusal n m k table (length c) (length b) → (x ≡ 0 → ⊥)
+pub minimise-refused : (n m k : ℕ) (table c b : List ℕ) (x : ℕ) → x ≡ minimiseRefusal n m k table (length c) (length b) → (x ≡ 0 → ⊥)
     → Minimise n m k table c c b b (Refused x 0)
 minimise-refused n m k table c b x e h =
     record {

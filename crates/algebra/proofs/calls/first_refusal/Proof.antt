@@ -9,7 +9,7 @@ use lib.ListN.{length}
 use Rattle.numbers.specs.Refusals.{tableRefusal, orElse, TableSized}
 use Rattle.numbers.proofs.Shifts.{one-shifted}
 use Rattle.numbers.proofs.refusals.Judging.{or-else-refused, or-else-passed, table-none}
-use Rattle.algebra.specs.Calls.{refusal}
+use Rattle.algebra.specs.Calls.{transformRefusal}
 use native.Mathlib.Omega.{arith}
 use Rattle.algebra.proofs.calls.first_refusal.Statement.{statement}
 use Rattle.algebra.proofs.calls.first_refusal.Tie as tie
@@ -41,7 +41,7 @@ lent-long : (c : tie.Else4) → eqb (start (c .before .before .before) .args .le
 lent-long c = eq-eqb _ _ (c .if4 .left ∙ size (c .before .before .before))
 
 returns : tie.Need-returns
-unfolding refusal
+unfolding transformRefusal
 returns c = or-else-refused _ _ _ (c .before .judge-table .ensures) (c .if1 .taken)
 
 shl-size : tie.Need-shl-size
@@ -52,20 +52,20 @@ rest : (c : tie.Else1) (x : ℕ) → orElse (tableRefusal (start c .args .n) (st
 rest c x = or-else-passed _ _ x (c .before .judge-table .ensures) (c .if1 .left)
 
 returns-2 : tie.Need-returns-2
-unfolding refusal
+unfolding transformRefusal
 returns-2 c =
     let a = start (c .before) .args in
     let h : 2 ^ a .n ≤ a .w = omega (arith, c .if2 .taken, size (c .before)) in
     sym (rest (c .before) _ ∙ rw (le-ltb _ _ h))
 
 returns-3 : tie.Need-returns-3
-unfolding refusal
+unfolding transformRefusal
 returns-3 c =
     let b = c .before .before in
     sym (rest b _ ∙ rw (polarity (c .before), ne-eqb _ _ (λ e. c .if3 .taken (e ∙ sym (size b)))))
 
 returns-4 : tie.Need-returns-4
-unfolding refusal
+unfolding transformRefusal
 returns-4 c =
     let b = c .before .before .before in
     sym (rest b _ ∙ rw (polarity (c .before .before), given-long (c .before), ne-eqb _ _ (λ e. c .if4 .taken (e ∙ sym (size b)))))
@@ -74,13 +74,13 @@ within-outputs-requires : tie.Need-within-outputs-requires
 within-outputs-requires c κs = search needs
 
 returns-5 : tie.Need-returns-5
-unfolding refusal
+unfolding transformRefusal
 returns-5 c =
     let d = c .before .before in
     sym (rest (d .before .before .before) _ ∙ rw (polarity (d .before .before), given-long (d .before), lent-long d, sym (c .before .within-outputs .ensures) ∙ c .if5 .taken))
 
 returns-6 : tie.Need-returns-6
-unfolding refusal
+unfolding transformRefusal
 returns-6 c =
     let d = c .before .before in
     sym (rest (d .before .before .before) _ ∙ rw (polarity (d .before .before), given-long (d .before), lent-long d, sym (c .before .within-outputs .ensures) ∙ c .if5 .left))

@@ -1,8 +1,8 @@
 -- `fill_values` meets its contract: the coefficients are joined in an array of 256, then moved into the table.
 use borrow.Author.Needs.{needs}
-use mathlib.Core.Path.{_≡_, refl, sym, ap, _∙_}
+use mathlib.Core.Path.{_≡_, ap, _∙_}
 use mathlib.Core.List.{List}
-use Prim.Native.Nat.{ℕ, _^_, _%_, _≤_, _<_}
+use Prim.Native.Nat.{ℕ, _^_, _%_, _≤_}
 use lib.Bits.{bitXor, xor-lt}
 use lib.ListN.{length}
 use lib.Pow.{pow-mono}

@@ -3,7 +3,7 @@ use borrow.Author.Needs.{needs}
 use Prim.Native.Nat.{_+_, _-_, _≤_}
 use mathlib.Core.Path.{_≡_}
 use lib.ListN.{length}
-use Rattle.algebra.specs.Transform.{RunsJoined}
+use Rattle.algebra.specs.inner.Steps.{RunsJoined}
 use Rattle.algebra.proofs.transform.Steps.{runs-none, runs-more}
 use native.Mathlib.Omega.{arith}
 use Rattle.algebra.proofs.transform.join_runs.Statement.{statement}

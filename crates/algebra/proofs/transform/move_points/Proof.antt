@@ -1,7 +1,7 @@
 -- `move_points` meets its contract: after q turns the first q places are filled.
 use borrow.Author.Needs.{needs}
 use mathlib.Core.Path.{refl}
-use Prim.Native.Nat.{ℕ, _-_, _<_}
+use Prim.Native.Nat.{_-_}
 use lib.Bits.{bitXor}
 use lib.ListN.{length}
 use Rattle.numbers.specs.Bytes.{at}

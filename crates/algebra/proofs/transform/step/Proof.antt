@@ -4,7 +4,6 @@ use mathlib.Core.Path.{_≡_}
 use Prim.Native.Nat.{_-_}
 use lib.ListN.{length}
 use lib.Pow.{pow-pos}
-use Rattle.algebra.specs.Transform.{SteppedTo}
 use Rattle.algebra.proofs.transform.Steps.{StepAt, step-start, step-room, step-next}
 use native.Mathlib.Omega.{arith}
 use Rattle.algebra.proofs.transform.step.Statement.{statement}

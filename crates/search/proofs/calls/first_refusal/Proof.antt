@@ -8,7 +8,7 @@ use Rattle.numbers.specs.Bytes.{allBelow}
 use Rattle.numbers.specs.Refusals.{unless, Sized}
 use Rattle.numbers.proofs.Shifts.{one-shifted}
 use Rattle.numbers.proofs.refusals.Judging.{or-else-refused, sizes-none}
-use Rattle.search.specs.Calls.{refusal}
+use Rattle.search.specs.Calls.{minimiseRefusal}
 use Rattle.search.proofs.calls.Judging.{refusal-lengths, refusal-bytes}
 use Rattle.search.proofs.calls.first_refusal.Statement.{statement}
 use Rattle.search.proofs.calls.first_refusal.Tie as tie
@@ -17,7 +17,7 @@ judge-sizes-requires : tie.Need-judge-sizes-requires
 judge-sizes-requires c κs = search needs
 
 returns : tie.Need-returns
-unfolding refusal
+unfolding minimiseRefusal
 returns c = or-else-refused _ _ _ (c .before .judge-sizes .ensures) (c .if1 .taken)
 
 -- where the call was entered, from past the test on n, m and k
@@ -67,7 +67,7 @@ within-outputs-requires c κs = search needs
 
 -- past the tests on lengths
 bytes : (c : tie.Else4) → let a = start (c .before .before .before) .args in
-    refusal (a .n) (a .m) (a .k) (a .table .now) (a .coefficients) (a .blocks) ≡ unless (allBelow (2 ^ a .m) (a .table .now)) 9 0
+    minimiseRefusal (a .n) (a .m) (a .k) (a .table .now) (a .coefficients) (a .blocks) ≡ unless (allBelow (2 ^ a .m) (a .table .now)) 9 0
 bytes c =
     let b = c .before .before .before in
     refusal-bytes _ _ _ _ _ _ (sized b) (c .before .before .if2 .left ∙ size b) (c .before .if3 .left ∙ size b) (c .if4 .left ∙ count b)
