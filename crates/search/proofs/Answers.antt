@@ -169,11 +169,12 @@ answer-only n k f hn hk M i φ c a =
 
 -- ---- nothing is cheaper
 
-pub answer-cheapest : (n k : ℕ) (f : ℕ → ℕ) → n ≤ 8 → k ≤ n → (M i : ℕ) (φ c : ℕ → ℕ) → Member n k M i φ → Gives n M i φ c f
-    → (products n (answerCoefficient n k f) ≤ products n c)
-    × (products n (answerCoefficient n k f) ≡ products n c → literals n (answerCoefficient n k f) ≤ literals n c)
-answer-cheapest n k f hn hk M i φ c member gives =
-    let before = answer-is n k f hn hk .first M i φ c member gives in
+-- what comes first costs least
+pub answer-cheapest : (n k : ℕ) (f : ℕ → ℕ) (M i : ℕ) (φ c : ℕ → ℕ) → IsAnswer n k f M i φ c
+    → (M′ i′ : ℕ) (φ′ c′ : ℕ → ℕ) → Member n k M′ i′ φ′ → Gives n M′ i′ φ′ c′ f
+    → (products n c ≤ products n c′) × (products n c ≡ products n c′ → literals n c ≤ literals n c′)
+answer-cheapest n k f M i φ c a M′ i′ φ′ c′ member gives =
+    let before = a .first M′ i′ φ′ c′ member gives in
     (then-le _ _ before, λ e. then-le _ _ (then-rest _ _ e before))
 
 pub answer-minimal : (n k : ℕ) (f : ℕ → ℕ) → n ≤ 8 → k ≤ n
@@ -181,14 +182,7 @@ pub answer-minimal : (n k : ℕ) (f : ℕ → ℕ) → n ≤ 8 → k ≤ n
     (products n (answerCoefficient n k f)) (literals n (answerCoefficient n k f))
 answer-minimal n k f hn hk =
     let a = answer-is n k f hn hk in
-    record {
-      member = a .member;
-      gives = a .gives;
-      products-counted = refl;
-      literals-counted = refl;
-      cheapest = answer-cheapest n k f hn hk;
-      ties = a .first;
-    }
+    record { answer = a; products-counted = refl; literals-counted = refl; cheapest = answer-cheapest n k f _ _ _ _ a }
 
 -- ---- only the table's values at the points count
 

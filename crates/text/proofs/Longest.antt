@@ -107,19 +107,19 @@ lowest-member n k h =
       inner = λ j l. pow-pos k;
     }
 
-module _ (n m k : ℕ) (e : Expansion) (f : ℕ → ℕ) (hn : n ≤ 8) (hm : m ≤ 8) (hk : k ≤ 3) (answer : Answered n k f e) where
+module _ (n m k : ℕ) (e : Expansion) (f : ℕ → ℕ) (hn : n ≤ 8) (hm : m ≤ 8) (hk : k ≤ 3) (minimal : Answered n k f e) where
   -- an answer of 2 ^ n products has the least M and the least i
   full-least : k ≤ n → 2 ^ n ≤ e .products → (e .mixed ≤ 7) × (e .fixed ≡ 0)
   full-least le full =
       let c : ℕ → ℕ = at (e .coefficients) in
       let rival : Member n k (2 ^ k - 1) 0 (λ j. 0) = lowest-member n k le in
       let c′ : ℕ → ℕ = memberCoefficient n k f (2 ^ k - 1) 0 (λ j. 0) in
-      let order = answer .ties (2 ^ k - 1) 0 (λ j. 0) c′ rival (member-gives n k (2 ^ k - 1) 0 (λ j. 0) rival f) in
-      let all : 2 ^ n ≤ products n c = omega (arith, answer .products-counted) in
+      let order = minimal .answer .first (2 ^ k - 1) 0 (λ j. 0) c′ rival (member-gives n k (2 ^ k - 1) 0 (λ j. 0) rival f) in
+      let all : 2 ^ n ≤ products n c = omega (arith, minimal .products-counted) in
       let all′ : 2 ^ n ≤ products n c′ = omega (arith, then-le (products n c) (products n c′) order) in
       let after = then-rest (products n c) (products n c′) (omega (arith, products-le n c, products-le n c′)) order in
       let last = then-rest (literals n c) (literals n c′) (literals-full n c all ∙ sym (literals-full n c′ all′)) after in
-      let least : 2 ^ k ≤ suc (e .mixed) = rw (answer .member .size) at (ones-least n (e .mixed)) in
+      let least : 2 ^ k ≤ suc (e .mixed) = rw (minimal .answer .member .size) at (ones-least n (e .mixed)) in
       let fixed = then-rest (e .mixed) (2 ^ k - 1) (omega (arith, then-le (e .mixed) (2 ^ k - 1) last)) last in (
         omega (arith, then-le (e .mixed) (2 ^ k - 1) last, pow-mono {i = k} {j = 3} hk),
         omega (arith, then-le (e .fixed) 0 fixed),
@@ -131,16 +131,16 @@ module _ (n m k : ℕ) (e : Expansion) (f : ℕ → ℕ) (hn : n ≤ 8) (hm : m 
     size = pow-mono {i = n} {j = 8} hn
 
     few : e .products ≤ 256
-    few = omega (arith, size, answer .products-counted, products-le n (at (e .coefficients)))
+    few = omega (arith, size, minimal .products-counted, products-le n (at (e .coefficients)))
 
     go : (b : Bool) → ltb (e .products) 256 ≡ b → length (listing n m k e) ≤ 5916
     go true h =
-        let mixed : digitCount (e .mixed) ≤ 3 = digitCount-three (e .mixed) (omega (arith, size, answer .member .mask)) in
-        let fixed : digitCount (e .fixed) ≤ 3 = digitCount-three (e .fixed) (omega (arith, size, answer .member .fixed)) in
-        let fewer : products n (at (e .coefficients)) ≤ 255 = omega (arith, ltb-true (e .products) 256 h, answer .products-counted) in
+        let mixed : digitCount (e .mixed) ≤ 3 = digitCount-three (e .mixed) (omega (arith, size, minimal .answer .member .mask)) in
+        let fixed : digitCount (e .fixed) ≤ 3 = digitCount-three (e .fixed) (omega (arith, size, minimal .answer .member .fixed)) in
+        let fewer : products n (at (e .coefficients)) ≤ 255 = omega (arith, ltb-true (e .products) 256 h, minimal .products-counted) in
         omega (arith, length-le n m k e hn hm (omega arith) few 6 255 (omega arith) fewer)
     go false h =
         let least = full-least le (omega (arith, size, ltb-false (e .products) 256 h)) in
         let mixed : digitCount (e .mixed) ≡ 1 = digitCount-one (e .mixed) (omega arith) in
         let fixed : digitCount (e .fixed) ≡ 1 = digitCount-one (e .fixed) (omega arith) in
-        length-le n m k e hn hm (omega arith) few 2 256 (omega arith) (omega (arith, few, answer .products-counted))
+        length-le n m k e hn hm (omega arith) few 2 256 (omega arith) (omega (arith, few, minimal .products-counted))
