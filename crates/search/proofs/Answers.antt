@@ -5,7 +5,7 @@ use mathlib.Core.Bool.{Bool, true, false}
 use Prim.Native.Nat.{ℕ, _+_, _-_, _*_, _/_, _%_, _^_, _≤_, _<_}
 use native.Mathlib.Nat.{mod-lt, div-lt-iff-lt-mul, le-antisymm}
 use native.Mathlib.Omega.{arith}
-use lib.Pow.{pow-pos, pow-mono}
+use lib.Pow.{pow-pos}
 use lib.Dec.{T, ltb, lt→ltb, ltb→lt}
 use Rattle.algebra.specs.Terms.{only}
 use Rattle.algebra.specs.Coefficients.{coefficient}
@@ -18,10 +18,11 @@ use Rattle.search.specs.Costs.{products, literals, charge}
 use Rattle.search.specs.Least.{LeastThen}
 use Rattle.search.specs.Answers.{NotAfter, IsAnswer, Minimal, blockFunction, memberCoefficient, blockCharge, leastPolarity, pairCharge, validPair, leastPair}
 use Rattle.search.specs.Answers.{answerPair, answerMixed, answerFixed, answerPolarity, answerCoefficient}
-use Rattle.search.proofs.Split.{gather-zero, join-lt}
-use Rattle.search.proofs.Masks.{ones-lowest, valid-from, valid-size, valid-clear}
+use Rattle.search.proofs.Split.{join-lt}
+use Rattle.search.proofs.Masks.{valid-from, valid-size, valid-clear}
 use Rattle.search.proofs.Least.{then-le, then-rest, then-map, then-antisym, then-digits, IsFirst}
 use Rattle.search.proofs.Blocks.{block-lt, member-gives, member-unique, member-lt, member-ext}
+use Rattle.search.proofs.Lowest.{lowest-member}
 use Rattle.search.proofs.Costs.{charge-parts, charge-member, literals-lt}
 use Rattle.search.proofs.Minimal.{polarity-first, pair-first, pair-minimal}
 
@@ -78,8 +79,9 @@ module _ (n k : ℕ) (f : ℕ → ℕ) (hk : k ≤ n) where
       (λ x. pairCharge n k (blockCharge n k f (x / 2 ^ n) (x % 2 ^ n))) (answerPair n k f)
   unfolding answerPair
   answer-first =
-      pair-first n k (validPair n k) (blockCharge n k f) (2 ^ k - 1) 0 (omega (arith, pow-pos k, pow-mono hk)) (pow-pos n)
-      (valid-from n k (2 ^ k - 1) 0 (ones-lowest n k hk) (gather-zero n (2 ^ k - 1)))
+      let lowest = lowest-member n k hk in
+      pair-first n k (validPair n k) (blockCharge n k f) (2 ^ k - 1) 0 (lowest .mask) (lowest .fixed)
+      (valid-from n k (2 ^ k - 1) 0 (lowest .size) (lowest .clear))
 
   pub answer-member : Member n k (answerMixed n k f) (answerFixed n k f) (answerPolarity n k f)
   unfolding answerMixed answerFixed
