@@ -5,7 +5,7 @@ use mathlib.Core.Bool.{Bool, true, false}
 use Prim.Native.Nat.{ℕ, _+_, _-_, _*_, _/_, _%_, _^_, _≤_, _<_}
 use native.Mathlib.Nat.{mod-lt, div-lt-iff-lt-mul, le-antisymm}
 use native.Mathlib.Omega.{arith}
-use lib.Pow.{pow-pos, pow-mono}
+use lib.Pow.{pow-pos}
 use lib.Dec.{T, ltb, lt→ltb, ltb→lt}
 use Rattle.numbers.specs.Tests.{only}
 use Rattle.algebra.specs.Coefficients.{coefficient}
@@ -18,10 +18,11 @@ use Rattle.expansions.specs.Costs.{products, literals, charge}
 use Rattle.expansions.specs.Least.{LeastThen}
 use Rattle.expansions.specs.Answers.{NotAfter, IsAnswer, Minimal, blockFunction, memberCoefficient, blockCharge, leastPolarity, pairCharge, validPair, leastPair}
 use Rattle.expansions.specs.Answers.{answerPair, answerMixed, answerFixed, answerPolarity, answerCoefficient}
-use Rattle.expansions.proofs.Split.{gather-zero, join-lt}
-use Rattle.expansions.proofs.Masks.{ones-lowest, valid-from, valid-size, valid-clear}
+use Rattle.expansions.proofs.Split.{join-lt}
+use Rattle.expansions.proofs.Masks.{valid-from, valid-size, valid-clear}
 use Rattle.expansions.proofs.Least.{then-le, then-rest, then-map, then-antisym, then-digits, IsFirst}
 use Rattle.expansions.proofs.Blocks.{block-lt, member-gives, member-unique, member-lt, member-ext}
+use Rattle.expansions.proofs.Lowest.{lowest-member}
 use Rattle.expansions.proofs.Costs.{charge-parts, charge-member, literals-lt}
 use Rattle.expansions.proofs.Minimal.{polarity-first, pair-first, pair-minimal}
 
@@ -78,8 +79,9 @@ module _ (n k : ℕ) (f : ℕ → ℕ) (hk : k ≤ n) where
       (λ x. pairCharge n k (blockCharge n k f (x / 2 ^ n) (x % 2 ^ n))) (answerPair n k f)
   unfolding answerPair
   answer-first =
-      pair-first n k (validPair n k) (blockCharge n k f) (2 ^ k - 1) 0 (omega (arith, pow-pos k, pow-mono hk)) (pow-pos n)
-      (valid-from n k (2 ^ k - 1) 0 (ones-lowest n k hk) (gather-zero n (2 ^ k - 1)))
+      let lowest = lowest-member n k hk in
+      pair-first n k (validPair n k) (blockCharge n k f) (2 ^ k - 1) 0 (lowest .mask) (lowest .fixed)
+      (valid-from n k (2 ^ k - 1) 0 (lowest .size) (lowest .clear))
 
   pub answer-member : Member n k (answerMixed n k f) (answerFixed n k f) (answerPolarity n k f)
   unfolding answerMixed answerFixed
@@ -169,11 +171,12 @@ answer-only n k f hn hk M i φ c a =
 
 -- ---- nothing is cheaper
 
-pub answer-cheapest : (n k : ℕ) (f : ℕ → ℕ) → n ≤ 8 → k ≤ n → (M i : ℕ) (φ c : ℕ → ℕ) → Member n k M i φ → Gives n M i φ c f
-    → (products n (answerCoefficient n k f) ≤ products n c)
-    × (products n (answerCoefficient n k f) ≡ products n c → literals n (answerCoefficient n k f) ≤ literals n c)
-answer-cheapest n k f hn hk M i φ c member gives =
-    let before = answer-is n k f hn hk .first M i φ c member gives in
+-- what comes first costs least
+pub answer-cheapest : (n k : ℕ) (f : ℕ → ℕ) (M i : ℕ) (φ c : ℕ → ℕ) → IsAnswer n k f M i φ c
+    → (M′ i′ : ℕ) (φ′ c′ : ℕ → ℕ) → Member n k M′ i′ φ′ → Gives n M′ i′ φ′ c′ f
+    → (products n c ≤ products n c′) × (products n c ≡ products n c′ → literals n c ≤ literals n c′)
+answer-cheapest n k f M i φ c a M′ i′ φ′ c′ member gives =
+    let before = a .first M′ i′ φ′ c′ member gives in
     (then-le _ _ before, λ e. then-le _ _ (then-rest _ _ e before))
 
 pub answer-minimal : (n k : ℕ) (f : ℕ → ℕ) → n ≤ 8 → k ≤ n
@@ -181,14 +184,7 @@ pub answer-minimal : (n k : ℕ) (f : ℕ → ℕ) → n ≤ 8 → k ≤ n
     (products n (answerCoefficient n k f)) (literals n (answerCoefficient n k f))
 answer-minimal n k f hn hk =
     let a = answer-is n k f hn hk in
-    record {
-      member = a .member;
-      gives = a .gives;
-      products-counted = refl;
-      literals-counted = refl;
-      cheapest = answer-cheapest n k f hn hk;
-      ties = a .first;
-    }
+    record { answer = a; products-counted = refl; literals-counted = refl; cheapest = answer-cheapest n k f _ _ _ _ a }
 
 -- ---- only the table's values at the points count
 

@@ -32,6 +32,13 @@ pub then-rest : {P : Type 0} (a b : ℕ) → a ≡ b → LeastThen a b P → P
 then-rest a b e (inl h) = absurd (omega arith)
 then-rest a b e (inr h) = h .1
 
+pub then-from : {P : Type 0} (a b : ℕ) → a ≤ b → (a ≡ b → P) → LeastThen a b P
+then-from {P} a b h rest = go (eq-or-lt-of-le h)
+  where
+    go : (a ≡ b) ⊎ (a < b) → LeastThen a b P
+    go (inl e) = inr (e, rest e)
+    go (inr l) = inl l
+
 pub then-map : {P Q : Type 0} (a b : ℕ) → (P → Q) → LeastThen a b P → LeastThen a b Q
 then-map a b f (inl h) = inl h
 then-map a b f (inr h) = inr (h .0, f (h .1))
@@ -78,11 +85,7 @@ then-sum (suc N) a b P h =
 
 -- Two choices, one after the other: x and y are charged a and b where the rest is least, and c is the charge of y with another rest.
 pub then-chain : (P : ℕ → Type 0) (a b c x y : ℕ) → LeastThen a b (x ≤ y) → LeastThen b c (P y) → LeastThen a c (LeastThen x y (P x))
-then-chain P a b c x y f g = then-map a c (λ d. go (eq-or-lt-of-le (d .0)) (d .1)) (then-trans a b c f g)
-  where
-    go : (x ≡ y) ⊎ (x < y) → P y → LeastThen x y (P x)
-    go (inl e) p = inr (e, subst P (sym e) p)
-    go (inr l) p = inl l
+then-chain P a b c x y f g = then-map a c (λ d. then-from x y (d .0) (λ e. subst P (sym e) (d .1))) (then-trans a b c f g)
 
 -- ---- the first least index
 
@@ -118,12 +121,9 @@ module _ (valid : ℕ → Bool) (charge : ℕ → ℕ) where
       record {
         below = omega arith;
         fits = l .fits;
-        first = below-one-more N (λ i. T (valid i) → LeastThen (charge b) (charge i) (b ≤ i)) (l .first) (λ t. go (eq-or-lt-of-le h));
+        first = below-one-more N (λ i. T (valid i) → LeastThen (charge b) (charge i) (b ≤ i)) (l .first)
+            (λ t. then-from (charge b) (charge N) h (λ e. omega (arith, l .below)));
       }
-    where
-      go : (charge b ≡ charge N) ⊎ (charge b < charge N) → LeastThen (charge b) (charge N) (b ≤ N)
-      go (inl e) = inr (e, omega (arith, l .below))
-      go (inr k) = inl k
 
   -- it is cheaper than every valid one below it
   take : (N : ℕ) → T (valid N) → ((i : ℕ) → i < N → T (valid i) → charge N < charge i) → IsFirst (suc N) valid charge N

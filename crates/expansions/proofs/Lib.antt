@@ -2,6 +2,7 @@ pub mod Split
 pub mod Masks
 pub mod Least
 pub mod Blocks
+pub mod Lowest
 pub mod Counted
 pub mod Costs
 pub mod Minimal

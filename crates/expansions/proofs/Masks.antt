@@ -38,6 +38,16 @@ ones-lowest (suc n) (suc k) h =
     let r : (2 ^ suc k - 1) / 2 ≡ 2 ^ k - 1 = omega (arith, pow-pos k) in
     rw (o, r) (omega (arith, ones-lowest n k (omega arith)))
 
+-- no mask of as many inputs is less
+pub ones-least : (n M : ℕ) → 2 ^ onesIn n M ≤ suc M
+unfolding onesIn
+ones-least zero M = omega arith
+ones-least (suc n) M = go (M % 2) refl (ones-least n (M / 2)) where
+  go : (b : ℕ) → M % 2 ≡ b → 2 ^ onesIn n (M / 2) ≤ suc (M / 2) → 2 ^ (b + onesIn n (M / 2)) ≤ suc M
+  go zero e h = let same : 0 + onesIn n (M / 2) ≡ onesIn n (M / 2) = omega arith in rw same (omega arith)
+  go (suc zero) e h = let more : 1 + onesIn n (M / 2) ≡ suc (onesIn n (M / 2)) = omega arith in rw more (omega arith)
+  go (suc (suc b)) e h = absurd (omega arith)
+
 -- ---- clear of M
 
 clear-digit : (m b x y : ℕ) → m < 2 → b < 2 → (x ≡ 0 ↔ y ≡ 0) → (putDigit m x b ≡ 0) ↔ (y * 2 + min b m ≡ 0)

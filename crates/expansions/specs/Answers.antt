@@ -27,16 +27,15 @@ pub record IsAnswer (n k : ℕ) (f : ℕ → ℕ) (M i : ℕ) (φ c : ℕ → �
   pub gives : Gives n M i φ c f
   pub first : (M′ i′ : ℕ) (φ′ c′ : ℕ → ℕ) → Member n k M′ i′ φ′ → Gives n M′ i′ φ′ c′ f → NotAfter n k M i φ c M′ i′ φ′ c′
 
--- An answer with its counts: "The answer is the member that gives the table with fewest products, then fewest literals, ..". The counts p
--- and l are those of its own coefficients, every other member that gives the table costs at least as much, and none comes before it.
+-- An answer with its counts p and l: "Products are the terms with c[t] not 0; literals are the bits set in those t, summed"
 pub record Minimal (n k : ℕ) (f : ℕ → ℕ) (M i : ℕ) (φ c : ℕ → ℕ) (p l : ℕ) : Type 0 where
-  pub member : Member n k M i φ
-  pub gives : Gives n M i φ c f
+  pub answer : IsAnswer n k f M i φ c
   pub products-counted : p ≡ products n c
   pub literals-counted : l ≡ literals n c
+  -- every other expansion of the class that gives these outputs, with "any coefficients", costs at least as much: "fewest products, then
+  -- fewest literals"
   pub cheapest : (M′ i′ : ℕ) (φ′ c′ : ℕ → ℕ) → Member n k M′ i′ φ′ → Gives n M′ i′ φ′ c′ f
       → (p ≤ products n c′) × (p ≡ products n c′ → l ≤ literals n c′)
-  pub ties : (M′ i′ : ℕ) (φ′ c′ : ℕ → ℕ) → Member n k M′ i′ φ′ → Gives n M′ i′ φ′ c′ f → NotAfter n k M i φ c M′ i′ φ′ c′
 
 -- ---- the answer as a function
 

@@ -82,7 +82,7 @@ pub fn least_polarity(charges: &[u32; 256], k: usize, more: u32, used: [u8; 8]) 
 {
     let count: usize = 1 << k;
     let mut least = Cheapest {
-        charge: 4294967295,
+        charge: u32::MAX,
         polarity: 0,
     };
     let mut phi: usize = 0;

@@ -7,8 +7,8 @@ ghost use Rattle.search.specs.Expansion.{emptyExpansion};
 // A member of the class and what it costs: the coefficient of each term, the polarity of each block, the mixed set M and the fixed
 // polarity i as masks, and the counts of products and literals.
 pub struct Expansion {
-    pub coefficients: [u8; 256],
-    pub blocks: [u8; 256],
+    pub coefficients: [u8; Expansion::PLACES],
+    pub blocks: [u8; Expansion::PLACES],
     pub mixed: usize,
     pub fixed: usize,
     pub products: usize,

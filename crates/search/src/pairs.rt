@@ -184,7 +184,7 @@ pub fn first_least(
 {
     let all: usize = 1 << n;
     let mut led = Leader {
-        charge: 4294967295,
+        charge: u32::MAX,
         pair: 0,
     };
     let mut mixed: usize = 0;

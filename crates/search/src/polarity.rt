@@ -1,6 +1,7 @@
 // The polarity of a term in an expansion, by which its cube is printed.
 ghost use mathlib.Core.Path.{_≡_};
 ghost use Rattle.search.specs.Expansion.{termPolarity};
+use crate::expansion::Expansion;
 use crate::points::gather;
 use crate::points::outside;
 use crate::points::spread;
@@ -14,10 +15,16 @@ fn wide(x: u8) -> usize
 
 // The polarity of the term t: the fixed polarity outside the mixed set, and in it the polarity of the term's block. Where n is above 8 or
 // a mask is none of n inputs it gives 0.
-pub fn term_polarity(n: usize, mixed: usize, fixed: usize, blocks: &[u8; 256], t: usize) -> usize
+pub fn term_polarity(
+    n: usize,
+    mixed: usize,
+    fixed: usize,
+    blocks: &[u8; Expansion::PLACES],
+    t: usize,
+) -> usize
     ensures { λ w. ⌜ w ≡ termPolarity n mixed fixed (now (blocks .entry)) t ⌝ }
 {
-    if 8 < n {
+    if Expansion::MOST_INPUTS < n {
         return 0;
     }
     let all: usize = 1 << n;

@@ -53,15 +53,15 @@ fn polarities(
     m: usize,
     k: usize,
     functions: &[u8],
-) -> [u8; 256]
+) -> [u8; Expansion::PLACES]
     requires { ⌜ (now blocks ≡ blockTable) × (now charges ≡ tabulate 256 byteCharge) ⌝ }
     requires { ⌜ Limits n m k ⌝ }
     requires { ⌜ length (now functions) ≡ m * 2 ^ (n - k) ⌝ }
     ensures { λ φ. ⌜ φ ≡ tabulate 256 (polarityAt n m k (at (now (functions .entry)))) ⌝ }
 {
-    let mut all = [0u8; 256];
+    let mut all = [0u8; Expansion::PLACES];
     let mut j: usize = 0;
-    while j < 256 {
+    while j < Expansion::PLACES {
         all[j] = polarity_at(blocks, charges, n, m, k, functions, j);
         j += 1;
     }
@@ -100,7 +100,7 @@ fn coefficient_at(
     k: usize,
     mixed: usize,
     functions: &[u8],
-    chosen: &[u8; 256],
+    chosen: &[u8; Expansion::PLACES],
     t: usize,
 ) -> u8
     requires { ⌜ (now blocks ≡ blockTable) × (mixed < 2 ^ n) × (onesIn n mixed ≡ k) ⌝ }
@@ -126,24 +126,24 @@ fn coefficients(
     k: usize,
     mixed: usize,
     functions: &[u8],
-    chosen: &[u8; 256],
-) -> [u8; 256]
+    chosen: &[u8; Expansion::PLACES],
+) -> [u8; Expansion::PLACES]
     requires { ⌜ (now blocks ≡ blockTable) × (mixed < 2 ^ n) × (onesIn n mixed ≡ k) ⌝ }
     requires { ⌜ Limits n m k ⌝ }
     requires { ⌜ length (now functions) ≡ m * 2 ^ (n - k) ⌝ }
     requires { ⌜ ((j : ℕ) → at (now chosen) j < 8) ⌝ }
     ensures { λ c. ⌜ c ≡ tabulate 256 (coefficientAt n m k mixed (at (now (functions .entry))) (at (now (chosen .entry)))) ⌝ }
 {
-    let mut all = [0u8; 256];
+    let mut all = [0u8; Expansion::PLACES];
     let mut t: usize = 0;
-    while t < 256 {
+    while t < Expansion::PLACES {
         all[t] = coefficient_at(blocks, n, m, k, mixed, functions, chosen, t);
         t += 1;
     }
     all
 }
 
-// The record of the leader of all the pairs. `places`, `planes` and `functions` are room to work in.
+// The record of the leader of all the pairs, which begins as the empty record. `places`, `planes` and `functions` are room to work in.
 pub fn expansion_of(
     blocks: &[u8; 2048],
     charges: &[u32; 256],
@@ -170,12 +170,12 @@ pub fn expansion_of(
     expand_planes(n, m, k, mixed, fixed, table, planes, functions);
     let chosen = polarities(blocks, charges, n, m, k, functions);
     let filled = coefficients(blocks, n, m, k, mixed, functions, &chosen);
-    Expansion {
-        coefficients: filled,
-        blocks: chosen,
-        mixed,
-        fixed,
-        products: (leader.charge / 4096) as usize,
-        literals: (leader.charge % 4096) as usize,
-    }
+    let mut found = Expansion::empty(k);
+    found.coefficients = filled;
+    found.blocks = chosen;
+    found.mixed = mixed;
+    found.fixed = fixed;
+    found.products = (leader.charge / 4096) as usize;
+    found.literals = (leader.charge % 4096) as usize;
+    found
 }

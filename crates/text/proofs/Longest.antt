@@ -2,30 +2,20 @@
 -- most 5,916 (`listing-longest`): where all 256 terms are products, every rival costs as much, so that M and i are the least there are.
 use mathlib.Core.Bool.{Bool, true, false, cond}
 use mathlib.Core.List.{[], _∷_}
-use mathlib.Core.Path.{_≡_, refl, sym, _∙_}
-use Prim.Native.Nat.{ℕ, zero, suc, _+_, _-_, _*_, _/_, _%_, _^_, _≤_, _<_}
-use native.Mathlib.Decide.{ℕ-discrete}
-use native.Mathlib.Nat.{mul-le-mul, one-mul, not-suc-le-zero}
+use mathlib.Core.Path.{_≡_, refl}
+use Prim.Native.Nat.{ℕ, _+_, _*_, _^_, _≤_, _<_}
+use native.Mathlib.Nat.{mul-le-mul}
 use native.Mathlib.Omega.{arith}
 use borrow.Author.Tests.{lt-ltb, ltb-true, ltb-false}
-use lib.Count.{onesIn, ones}
 use lib.Dec.{ltb}
 use lib.ListN.{length}
-use lib.Pow.{pow-pos, pow-mono}
+use lib.Pow.{pow-mono}
 use Rattle.numbers.specs.Bytes.{at}
-use Rattle.numbers.specs.Sums.{foldBelow, sumBelow}
-use Rattle.numbers.proofs.Sums.{fold-ext}
-use Rattle.expansions.specs.Answers.{memberCoefficient}
-use Rattle.expansions.specs.Costs.{counted, products, literals}
+use Rattle.expansions.specs.Costs.{products}
 use Rattle.search.specs.Expansion.{Answered}
-use Rattle.expansions.specs.Members.{Member}
 use Rattle.search.specs.declared.expansion.Expansion.{Expansion}
-use Rattle.expansions.proofs.Blocks.{member-gives}
 use Rattle.expansions.proofs.Costs.{products-le}
-use Rattle.expansions.proofs.Counted.{counted-le, counted-mul}
-use Rattle.expansions.proofs.Least.{then-le, then-rest}
-use Rattle.expansions.proofs.Masks.{ones-lowest}
-use Rattle.expansions.proofs.Split.{gather-zero}
+use Rattle.search.proofs.expansion.Full.{full-least}
 use Rattle.text.specs.Listing.{digitCount, listing, digitsOf, listingLength}
 use Rattle.text.proofs.Characters.{digitCount-in}
 use Rattle.text.proofs.Lengths.{length-listing}
@@ -65,82 +55,25 @@ listing-most n m k e hn hm hk M i few =
     let most : products n (at (e .coefficients)) ≤ 256 = omega (arith, products-le n (at (e .coefficients)), pow-mono {i = n} {j = 8} hn) in
     length-le n m k e hn hm hk few 6 256 (omega (arith, digitCount-three (e .mixed) (omega arith), digitCount-three (e .fixed) (omega arith))) most
 
--- ---- all terms are products
-
-counts-le : (N : ℕ) (c : ℕ → ℕ) → sumBelow N (λ t. counted (c t) 1) ≤ N
-unfolding foldBelow
-counts-le zero c = omega arith
-counts-le (suc N) c = omega (arith, counts-le N c, counted-le (c N) 1 1 (omega arith))
-
-full-each : (N : ℕ) (c : ℕ → ℕ) → N ≤ sumBelow N (λ t. counted (c t) 1) → (t : ℕ) → t < N → counted (c t) 1 ≡ 1
-unfolding foldBelow
-full-each zero c h t l = absurd (not-suc-le-zero l)
-full-each (suc N) c h t l = go (ℕ-discrete t N) (full-each N c (omega (arith, counted-le (c N) 1 1 (omega arith))) t) where
-  go : Dec (t ≡ N) → (t < N → counted (c t) 1 ≡ 1) → counted (c t) 1 ≡ 1
-  go (yes e) ih = rw e (omega (arith, h, counts-le N c, counted-le (c N) 1 1 (omega arith)))
-  go (no e) ih = ih (omega arith)
-
-literals-full : (n : ℕ) (c : ℕ → ℕ) → 2 ^ n ≤ products n c → literals n c ≡ sumBelow (2 ^ n) ones
-unfolding products literals
-literals-full n c h = fold-ext _+_ (2 ^ n) _ _ (λ t l. counted-mul (c t) (ones t) ∙ rw (full-each (2 ^ n) c h t l) (one-mul (ones t)))
-
--- ---- the least mask of k inputs
-
-ones-least : (n M : ℕ) → 2 ^ onesIn n M ≤ suc M
-unfolding onesIn
-ones-least zero M = omega arith
-ones-least (suc n) M = go (M % 2) refl (ones-least n (M / 2)) where
-  go : (b : ℕ) → M % 2 ≡ b → 2 ^ onesIn n (M / 2) ≤ suc (M / 2) → 2 ^ (b + onesIn n (M / 2)) ≤ suc M
-  go zero e h = let same : 0 + onesIn n (M / 2) ≡ onesIn n (M / 2) = omega arith in rw same (omega arith)
-  go (suc zero) e h = let more : 1 + onesIn n (M / 2) ≡ suc (onesIn n (M / 2)) = omega arith in rw more (omega arith)
-  go (suc (suc b)) e h = absurd (omega arith)
-
 -- ---- the answer's listing
 
-lowest-member : (n k : ℕ) → k ≤ n → Member n k (2 ^ k - 1) 0 (λ j. 0)
-lowest-member n k h =
-    record {
-      mask = omega (arith, pow-pos k, pow-mono h);
-      size = ones-lowest n k h;
-      fixed = pow-pos n;
-      clear = gather-zero n (2 ^ k - 1);
-      inner = λ j l. pow-pos k;
-    }
-
-module _ (n m k : ℕ) (e : Expansion) (f : ℕ → ℕ) (hn : n ≤ 8) (hm : m ≤ 8) (hk : k ≤ 3) (answer : Answered n k f e) where
-  -- an answer of 2 ^ n products has the least M and the least i
-  full-least : k ≤ n → 2 ^ n ≤ e .products → (e .mixed ≤ 7) × (e .fixed ≡ 0)
-  full-least le full =
-      let c : ℕ → ℕ = at (e .coefficients) in
-      let rival : Member n k (2 ^ k - 1) 0 (λ j. 0) = lowest-member n k le in
-      let c′ : ℕ → ℕ = memberCoefficient n k f (2 ^ k - 1) 0 (λ j. 0) in
-      let order = answer .ties (2 ^ k - 1) 0 (λ j. 0) c′ rival (member-gives n k (2 ^ k - 1) 0 (λ j. 0) rival f) in
-      let all : 2 ^ n ≤ products n c = omega (arith, answer .products-counted) in
-      let all′ : 2 ^ n ≤ products n c′ = omega (arith, then-le (products n c) (products n c′) order) in
-      let after = then-rest (products n c) (products n c′) (omega (arith, products-le n c, products-le n c′)) order in
-      let last = then-rest (literals n c) (literals n c′) (literals-full n c all ∙ sym (literals-full n c′ all′)) after in
-      let least : 2 ^ k ≤ suc (e .mixed) = rw (answer .member .size) at (ones-least n (e .mixed)) in
-      let fixed = then-rest (e .mixed) (2 ^ k - 1) (omega (arith, then-le (e .mixed) (2 ^ k - 1) last)) last in (
-        omega (arith, then-le (e .mixed) (2 ^ k - 1) last, pow-mono {i = k} {j = 3} hk),
-        omega (arith, then-le (e .fixed) 0 fixed),
-      )
-
+module _ (n m k : ℕ) (e : Expansion) (f : ℕ → ℕ) (hn : n ≤ 8) (hm : m ≤ 8) (hk : k ≤ 3) (minimal : Answered n k f e) where
   pub listing-longest : k ≤ n → length (listing n m k e) ≤ 5916
   listing-longest le = go (ltb (e .products) 256) refl where
     size : 2 ^ n ≤ 256
     size = pow-mono {i = n} {j = 8} hn
 
     few : e .products ≤ 256
-    few = omega (arith, size, answer .products-counted, products-le n (at (e .coefficients)))
+    few = omega (arith, size, minimal .products-counted, products-le n (at (e .coefficients)))
 
     go : (b : Bool) → ltb (e .products) 256 ≡ b → length (listing n m k e) ≤ 5916
     go true h =
-        let mixed : digitCount (e .mixed) ≤ 3 = digitCount-three (e .mixed) (omega (arith, size, answer .member .mask)) in
-        let fixed : digitCount (e .fixed) ≤ 3 = digitCount-three (e .fixed) (omega (arith, size, answer .member .fixed)) in
-        let fewer : products n (at (e .coefficients)) ≤ 255 = omega (arith, ltb-true (e .products) 256 h, answer .products-counted) in
+        let mixed : digitCount (e .mixed) ≤ 3 = digitCount-three (e .mixed) (omega (arith, size, minimal .answer .member .mask)) in
+        let fixed : digitCount (e .fixed) ≤ 3 = digitCount-three (e .fixed) (omega (arith, size, minimal .answer .member .fixed)) in
+        let fewer : products n (at (e .coefficients)) ≤ 255 = omega (arith, ltb-true (e .products) 256 h, minimal .products-counted) in
         omega (arith, length-le n m k e hn hm (omega arith) few 6 255 (omega arith) fewer)
     go false h =
-        let least = full-least le (omega (arith, size, ltb-false (e .products) 256 h)) in
-        let mixed : digitCount (e .mixed) ≡ 1 = digitCount-one (e .mixed) (omega arith) in
-        let fixed : digitCount (e .fixed) ≡ 1 = digitCount-one (e .fixed) (omega arith) in
-        length-le n m k e hn hm (omega arith) few 2 256 (omega arith) (omega (arith, few, answer .products-counted))
+        let least = full-least n k f _ _ _ _ _ _ le minimal (omega (arith, size, ltb-false (e .products) 256 h)) in
+        let mixed : digitCount (e .mixed) ≡ 1 = digitCount-one (e .mixed) (omega (arith, least .0, pow-mono {i = k} {j = 3} hk)) in
+        let fixed : digitCount (e .fixed) ≡ 1 = digitCount-one (e .fixed) (omega (arith, least .1)) in
+        length-le n m k e hn hm (omega arith) few 2 256 (omega arith) (omega (arith, few, minimal .products-counted))

@@ -1,4 +1,5 @@
--- The leader's M and i are the answer's, and so are the block functions that `functions` holds for them.
+-- The leader's M and i are the answer's, and so are the block functions that `functions` holds for them. Of the empty record with which it
+-- begins every field is set.
 use borrow.Author.Needs.{needs}
 use Prim.Native.Nat.{_-_, _*_, _/_, _%_, _^_}
 use lib.Bits.{bitAnd}
@@ -16,7 +17,8 @@ use Rattle.search.proofs.record.expansion_of.Tie as tie
 abbrev start : tie.After-expand-planes → tie.Start
 start c = c .before .before .before .before .before .before .before .before .before .before .before .before .before .before .before .before
 
-member : (c : tie.Start) → let a = c .args in Member (a .n) (a .k) (a .leader .pair / 2 ^ a .n) (bitAnd (a .leader .pair) (1 * 2 ^ a .n % 2 ^ 64 - 1)) (answerPolarity (a .n) (a .k) (at (a .table .now)))
+member : (c : tie.Start) → let a = c .args in
+    Member (a .n) (a .k) (a .leader .pair / 2 ^ a .n) (bitAnd (a .leader .pair) (1 * 2 ^ a .n % 2 ^ 64 - 1)) (answerPolarity (a .n) (a .k) (at (a .table .now)))
 member c = leader-member _ _ _ (c .args .leader) (c .pre .1 .0 .inputs) (c .pre .1 .0 .within) (c .pre .1 .1 .1 .1)
 
 shl-all : tie.Need-shl-all
@@ -65,11 +67,14 @@ coefficients-requires c κs =
       ),
     )
 
-cast-t16 : tie.Need-cast-t16
-cast-t16 c = search needs
+empty-requires : tie.Need-empty-requires
+empty-requires c κs = search needs
 
-cast-t34 : tie.Need-cast-t34
-cast-t34 c = search needs
+cast-found : tie.Need-cast-found
+cast-found c = search needs
+
+cast-found-2 : tie.Need-cast-found-2
+cast-found-2 c = search needs
 
 same-length : tie.Need-same-length
 same-length c = search needs
@@ -82,7 +87,7 @@ same-length-3 c = search needs
 
 returns : tie.Need-returns
 returns c =
-    let f = c .before .before in
+    let f = c .before .before .before in
     let b = f .before .before .before in
     let e = b .before .before .before .before in
     let p = start e .pre .1 in
@@ -99,8 +104,9 @@ expansion-of-spec =
     expand-planes-requires
     polarities-requires
     coefficients-requires
-    cast-t16
-    cast-t34
+    empty-requires
+    cast-found
+    cast-found-2
     same-length
     same-length-2
     same-length-3

@@ -1,0 +1,84 @@
+-- Document 01, "All zero: M = 2^k − 1, i = 0, 0 products": the answer for a table that is 0 at every point is the empty record, for every k
+-- (`answer-of-zero`), and so is what the search hands up for such a table (`searched-of-zero`). With no product the lowest member gives the
+-- table, and nothing comes before it (`zero-answer`).
+use mathlib.Core.Path.{_≡_, refl, sym, ap, _∙_, fun-ext}
+use mathlib.Core.Bool.{Bool, true, false, cond}
+use mathlib.Core.List.{List, _∷_}
+use Prim.Native.Nat.{ℕ, zero, suc, _+_, _-_, _^_, _≤_, _<_, min}
+use native.Mathlib.Decide.{decLt}
+use native.Mathlib.Nat.{add-assoc, add-comm, add-zero}
+use native.Mathlib.Omega.{arith}
+use lib.ListN.{replicate}
+use Rattle.numbers.specs.Bytes.{at, tabulate}
+use Rattle.numbers.proofs.Sums.{fold-zero}
+use Rattle.algebra.proofs.Value.{value-zero}
+use Rattle.expansions.specs.Costs.{counted, products, literals}
+use Rattle.expansions.specs.Answers.{IsAnswer, answerMixed, answerFixed, answerPolarity, answerCoefficient}
+use Rattle.search.specs.Expansion.{answerExpansion, emptyExpansion, searchable, searched}
+use Rattle.expansions.proofs.Least.{then-from}
+use Rattle.expansions.proofs.Lowest.{lowest-member, lowest-first}
+use Rattle.expansions.proofs.Answers.{answer-polarity-zero, answer-coefficient-zero, answer-only}
+use Rattle.search.proofs.search.Searchable.{allowed-sizes}
+
+-- ---- no product
+
+products-zero : (n : ℕ) → products n (λ t. 0) ≡ 0
+unfolding products counted
+products-zero n = fold-zero _+_ add-assoc add-comm add-zero (2 ^ n)
+
+literals-zero : (n : ℕ) → literals n (λ t. 0) ≡ 0
+unfolding literals counted
+literals-zero n = fold-zero _+_ add-assoc add-comm add-zero (2 ^ n)
+
+-- ---- every place is 0
+
+tabulate-zero : (N : ℕ) → tabulate N (λ t. 0) ≡ replicate {A = ℕ} N 0
+unfolding tabulate
+tabulate-zero zero = refl
+tabulate-zero (suc N) = ap (λ (l : List ℕ). 0 ∷ l) (tabulate-zero N)
+
+-- ---- the answer
+
+module _ (n k : ℕ) (f : ℕ → ℕ) (hn : n ≤ 8) (hk : k ≤ n) (zeros : (p : ℕ) → p < 2 ^ n → f p ≡ 0) where
+  zero-answer : IsAnswer n k f (2 ^ k - 1) 0 (λ j. 0) (λ t. 0)
+  zero-answer =
+      record {
+        member = lowest-member n k hk;
+        gives = λ p h. value-zero n _ p ∙ sym (zeros p h);
+        first = λ M i φ c member gives.
+            then-from _ _ (omega (arith, products-zero n)) (λ e. then-from _ _ (omega (arith, literals-zero n)) (λ e. lowest-first n k M i φ member));
+      }
+
+  zero-only : (2 ^ k - 1 ≡ answerMixed n k f) × (0 ≡ answerFixed n k f)
+      × ((j : ℕ) → j < 2 ^ (n - k) → 0 ≡ answerPolarity n k f j) × ((t : ℕ) → t < 2 ^ n → 0 ≡ answerCoefficient n k f t)
+  zero-only = answer-only n k f hn hk (2 ^ k - 1) 0 (λ j. 0) (λ t. 0) zero-answer
+
+  polarities : answerPolarity n k f ≡ (λ j. 0)
+  polarities = fun-ext (λ j. go j (decLt j (2 ^ (n - k))))
+    where
+      go : (j : ℕ) → Dec (j < 2 ^ (n - k)) → answerPolarity n k f j ≡ 0
+      go j (yes h) = sym (zero-only .2 j h)
+      go j (no h) = answer-polarity-zero n k f j (omega arith)
+
+  coefficients : answerCoefficient n k f ≡ (λ t. 0)
+  coefficients = fun-ext (λ t. go t (decLt t (2 ^ n)))
+    where
+      go : (t : ℕ) → Dec (t < 2 ^ n) → answerCoefficient n k f t ≡ 0
+      go t (yes h) = sym (zero-only .3 t h)
+      go t (no h) = answer-coefficient-zero n k f t (omega arith)
+
+  pub answer-of-zero : answerExpansion n k f ≡ emptyExpansion k
+  unfolding answerExpansion emptyExpansion
+  answer-of-zero =
+      let small : min k 8 ≡ k = omega arith in
+      rw (coefficients, polarities, ← zero-only .0, ← zero-only .1, products-zero n, literals-zero n, small, tabulate-zero 256)
+
+-- ---- what the search hands up
+
+pub searched-of-zero : (n m k : ℕ) (table : List ℕ) → ((p : ℕ) → p < 2 ^ n → at table p ≡ 0) → searched n m k table ≡ emptyExpansion k
+unfolding searched
+searched-of-zero n m k table zeros = go (searchable n m k table) refl
+  where
+    go : (b : Bool) → searchable n m k table ≡ b → cond b (answerExpansion n k (at table)) (emptyExpansion k) ≡ emptyExpansion k
+    go true e = let sizes = allowed-sizes n m k table e in answer-of-zero n k (at table) (sizes .inputs) (sizes .within) zeros
+    go false e = refl
