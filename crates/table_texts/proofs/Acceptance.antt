@@ -29,6 +29,7 @@ use Rattle.text.proofs.Meaning.{plain-decimal, plain-outputs}
 use Rattle.text.proofs.Powers.{points-le}
 use Rattle.table_texts.specs.TableTexts.{pointLine, ifListed, pointLines, sizesLine, textWith, tableText, dashText}
 use Rattle.table_texts.proofs.Written.{oneDigit-decimal, mixed-decimal, mixed-dash, point-decimal, outputs-written}
+use Rattle.table_texts.proofs.PointLines.{pointLines-more}
 
 -- ---- the words
 
@@ -101,11 +102,6 @@ record Passed (z : Sizes) (f : ℕ → ℕ) (N : ℕ) (s : List ℕ) : Type 0 wh
   filled : Filled f N (replicate 256 0) table
   follows : linesFrom z 2 0 (replicate 256 0) (pointLines (z .m) f N ++ s) ≡ linesFrom z number least table s
 
-pub lines-more : (m : ℕ) (f : ℕ → ℕ) (N : ℕ) (s : List ℕ) (o : ℕ) → f N ≡ o
-    → pointLines m f (suc N) ++ s ≡ pointLines m f N ++ (ifListed o (pointLine m N o) ++ s)
-unfolding pointLines
-lines-more m f N s o e = rw e (append-assoc (pointLines m f N) (ifListed o (pointLine m N o)) s)
-
 module _ (z : Sizes) (f : ℕ → ℕ) (low : 2 ^ z .n ≤ 256) (small : (p : ℕ) → f p < 2 ^ z .m) where
   filled-next : (N : ℕ) (table : List ℕ) (o : ℕ) → f N ≡ o → N < 2 ^ z .n → Filled f N (replicate 256 0) table
       → Filled f (suc N) (replicate 256 0) (set table N o)
@@ -124,7 +120,7 @@ module _ (z : Sizes) (f : ℕ → ℕ) (low : 2 ^ z .n ≤ 256) (small : (p : �
         table = set (w .table) N 0;
         below = omega (arith, w .below);
         filled = filled-next N (w .table) 0 e h (w .filled);
-        follows = rw (lines-more (z .m) f N s 0 e, kept) (w .follows);
+        follows = rw (pointLines-more (z .m) f N s 0 e, kept) (w .follows);
       }
   passed-more N s (suc o) e h w =
       let small′ : suc o < 2 ^ z .m = rw e at (small N) in
@@ -135,7 +131,7 @@ module _ (z : Sizes) (f : ℕ → ℕ) (low : 2 ^ z .n ≤ 256) (small : (p : �
         below = omega arith;
         filled = filled-next N (w .table) (suc o) e h (w .filled);
         follows =
-            rw (lines-more (z .m) f N s (suc o) e)
+            rw (pointLines-more (z .m) f N s (suc o) e)
             (w .follows ∙ point-passed z (w .number) (w .least) (w .table) N (suc o) s (omega arith) h (w .below) small′ (λ q. omega arith));
       }
 

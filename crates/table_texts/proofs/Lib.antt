@@ -1,2 +1,6 @@
 pub mod Written
+pub mod PointLines
 pub mod Acceptance
+pub mod FieldsRead
+pub mod LinesRead
+pub mod Exactness

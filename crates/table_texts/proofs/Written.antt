@@ -103,6 +103,10 @@ outputs-tail : (m c : ℕ) → tabulate m (λ i. 48 + bit (suc i) c) ≡ outputB
 unfolding outputBytes
 outputs-tail m c = tabulate-ext m _ _ (λ i l. ap (λ (x : ℕ). 48 + x) (bit-suc i c))
 
+pub outputs-none : (c : ℕ) → outputBytes 0 c ≡ []
+unfolding outputBytes tabulate
+outputs-none c = refl
+
 -- the first character is the lowest bit, and the others are those of the other bits
 pub outputs-cons : (m c : ℕ) → outputBytes (suc m) c ≡ (48 + c % 2) ∷ outputBytes m (c / 2)
 unfolding outputBytes tabulate
