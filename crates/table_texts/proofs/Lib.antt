@@ -4,3 +4,4 @@ pub mod Acceptance
 pub mod FieldsRead
 pub mod LinesRead
 pub mod Exactness
+pub mod Length
