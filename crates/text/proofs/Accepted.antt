@@ -29,10 +29,10 @@ use Rattle.text.proofs.Tests.{and-left, or-left, or-right}
 
 -- ---- an `on` line
 
-wrong-on : {p o : ℕ} → Wrong ≡ On p o → ⊥
+pub wrong-on : {p o : ℕ} → Wrong ≡ On p o → ⊥
 wrong-on e = let z : _≡_ {A = ℕ} 0 1 = cc in omega arith
 
-end-on : {p o : ℕ} → End ≡ On p o → ⊥
+pub end-on : {p o : ℕ} → End ≡ On p o → ⊥
 end-on e = let z : _≡_ {A = ℕ} 0 1 = cc in omega arith
 
 on-outputs : (x y : Number) (p o : ℕ) → onLine x y ≡ On p o → y ≡ number.Is o
@@ -50,7 +50,7 @@ row-lt m l p o e = go (same l (bytes "end")) (headed 3 (bytes "on") l) e where
 
 -- ---- the table as rows are put into it
 
-getD-zeros : (k p : ℕ) → getD {A = ℕ} (replicate k 0) p 0 ≡ 0
+pub getD-zeros : (k p : ℕ) → getD {A = ℕ} (replicate k 0) p 0 ≡ 0
 getD-zeros k p = go (ltb p k) refl where
   go : (t : Bool) → ltb p k ≡ t → getD {A = ℕ} (replicate k 0) p 0 ≡ 0
   go true e = getD-replicate k p 0 0 (ltb-true p k e)
@@ -82,10 +82,10 @@ table-row z t p o g low small =
 
 -- ---- the lines
 
-no-refusal : {number line : ℕ} {z : Sizes} {t : List ℕ} → refused number line ≡ given z t → ⊥
+pub no-refusal : {number line : ℕ} {z : Sizes} {t : List ℕ} → refused number line ≡ given z t → ⊥
 no-refusal e = let z : _≡_ {A = ℕ} 0 1 = cc in omega arith
 
-unfinished-refused : (l : List ℕ) (line : ℕ) (z : Sizes) (t : List ℕ) → unfinished l line ≡ given z t → ⊥
+pub unfinished-refused : (l : List ℕ) (line : ℕ) (z : Sizes) (t : List ℕ) → unfinished l line ≡ given z t → ⊥
 unfolding unfinished
 unfinished-refused [] line z t e = no-refusal e
 unfinished-refused (b ∷ l) line z t e = no-refusal e
@@ -125,7 +125,7 @@ pub outside-in : (x : ℕ) → outside x ≡ false → (1 ≤ x) × (x ≤ 8)
 unfolding outside
 outside-in x e = (ltb-false x 1 (or-left (ltb x 1) (ltb 8 x) e), ltb-false 8 x (or-right (ltb x 1) (ltb 8 x) e))
 
-refused-given : {number line : ℕ} {z : Sizes} → answer.Refused number line ≡ answer.Given z → ⊥
+pub refused-given : {number line : ℕ} {z : Sizes} → answer.Refused number line ≡ answer.Given z → ⊥
 refused-given e = let z : _≡_ {A = ℕ} 0 1 = cc in omega arith
 
 pub first-sized : (x : FirstLine) (z : Sizes) → judgedFirst x ≡ answer.Given z → Sized z

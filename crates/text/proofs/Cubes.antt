@@ -118,7 +118,7 @@ digits-said (suc d) x =
     let e : x / 10 ^ suc d * 10 + (48 + x / 10 ^ d % 10 - 48) ≡ x / 10 ^ d = omega (arith, high) in
     ap (λ (v : ℕ). numberSaid v (descending d (λ i. 48 + x / 10 ^ i % 10))) e ∙ digits-said d x
 
-digitCount-bound : (x : ℕ) → x < 10000 → x < 10 ^ digitCount x
+pub digitCount-bound : (x : ℕ) → x < 10000 → x < 10 ^ digitCount x
 unfolding digitCount
 digitCount-bound x h = go (ltb x 10) (ltb x 100) (ltb x 1000) refl refl refl where
   go : (a b c : Bool) → ltb x 10 ≡ a → ltb x 100 ≡ b → ltb x 1000 ≡ c → x < 10 ^ cond a 1 (cond b 2 (cond c 3 4))

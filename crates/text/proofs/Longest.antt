@@ -22,7 +22,7 @@ use Rattle.text.proofs.Lengths.{length-listing}
 
 -- ---- how many digits
 
-digitCount-one : (x : ℕ) → x < 10 → digitCount x ≡ 1
+pub digitCount-one : (x : ℕ) → x < 10 → digitCount x ≡ 1
 unfolding digitCount
 digitCount-one x h = rw (lt-ltb x 10 h)
 

@@ -35,7 +35,7 @@ use Rattle.text.proofs.Listings.{numbersOf, termsOf}
 
 -- ---- the fields of a listing are free of separators
 
-plain-decimal : (x : ℕ) → Plain (decimal x)
+pub plain-decimal : (x : ℕ) → Plain (decimal x)
 unfolding decimal
 plain-decimal x = plain-descending (digitCount x) (λ i. 48 + x / 10 ^ i % 10) (λ i. omega arith)
 
@@ -53,7 +53,7 @@ plain-cube : (n t w : ℕ) → Plain (cube n t w)
 unfolding cube
 plain-cube n t w = plain-descending n (λ i. cubeByte (bit i t) (bit i w)) (λ i. plain-cubeByte (bit i t) (bit i w))
 
-plain-outputs : (m c : ℕ) → Plain (outputBytes m c)
+pub plain-outputs : (m c : ℕ) → Plain (outputBytes m c)
 unfolding outputBytes
 plain-outputs m c = plain-tabulate m (λ o. 48 + bit o c) (λ o. omega arith)
 
@@ -65,7 +65,7 @@ plain-term : Plain (bytes "term")
 unfolding bytes
 plain-term = (lit< tt, (lit< tt, (lit< tt, (lit< tt, tt))))
 
-plain-end : Plain (bytes "end")
+pub plain-end : Plain (bytes "end")
 unfolding bytes
 plain-end = (lit< tt, (lit< tt, (lit< tt, tt)))
 

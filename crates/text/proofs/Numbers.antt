@@ -19,7 +19,7 @@ use Rattle.text.proofs.Tests.{and-left, and-right}
 
 -- ---- one digit
 
-wrong-is : {v : ℕ} → Wrong ≡ Is v → ⊥
+pub wrong-is : {v : ℕ} → Wrong ≡ Is v → ⊥
 wrong-is e = let z : _≡_ {A = ℕ} 0 1 = cc in omega arith
 
 pub digit-lt : (base b v : ℕ) → digit base b ≡ Is v → v < base

@@ -1,0 +1,209 @@
+-- An accepted text is the text that is written for its own sizes and its own table, with the digit k, or where k is 1 with `-`
+-- (`accepted-text`). So just these texts are accepted (`accepted-exactly`).
+use mathlib.Core.Bool.{Bool, true, false, cond, _&&_, _||_}
+use mathlib.Core.List.{List, [], _∷_, _++_, append-assoc}
+use mathlib.Core.Logic.{_⊎_, inl, inr, _↔_}
+use mathlib.Core.Path.{_≡_, refl, sym, ap, ap₂, subst, _∙_}
+use Prim.Native.Nat.{ℕ, _+_, _^_, _≤_, _<_}
+use native.Mathlib.Numerals.{add-one}
+use native.Mathlib.Omega.{arith}
+use borrow.Author.Tests.{ltb-true, leb-true}
+use lib.Dec.{leb, ltb}
+use lib.ListN.{length, set, replicate, length-set, length-replicate}
+use lib.Seq.{getD-set-same, getD-set-other}
+use Rattle.numbers.specs.Bytes.{at}
+use Rattle.text.specs.declared.fields.Number.the-variants.{Is}
+use Rattle.text.specs.declared.lines.FirstLine.the-variants as first
+use Rattle.text.specs.declared.lines.FirstLine.{FirstLine}
+use Rattle.text.specs.declared.lines.LaterLine.the-variants.{On, End, Wrong}
+use Rattle.text.specs.declared.lines.LaterLine.{LaterLine}
+use Rattle.text.specs.declared.read.ReadAnswer.the-variants as answer
+use Rattle.text.specs.declared.read.ReadAnswer.{ReadAnswer}
+use Rattle.text.specs.declared.read.Sizes.{Sizes}
+use Rattle.text.specs.Cursor.{parts}
+use Rattle.text.specs.Fields.{bytes, mixed}
+use Rattle.text.specs.Lines.{firstLine, laterLine}
+use Rattle.text.specs.Listing.{tabbed, line, decimal, outputBytes}
+use Rattle.text.specs.Accepted.{Accepted}
+use Rattle.text.specs.Read.{given, refused, ended, judgedLater, laterLines, outside, judgedFirst, opened, allLines, reading}
+use Rattle.text.proofs.Accepted.{no-refusal, unfinished-refused, refused-given, getD-zeros, first-sized, reading-accepted}
+use Rattle.text.proofs.Powers.{points-le}
+use Rattle.text.proofs.Tests.{and-left, and-right}
+use Rattle.table_texts.specs.TableTexts.{pointLine, pointLines, sizesLine, textWith, tableText, dashText}
+use Rattle.table_texts.proofs.Acceptance.{table-text-accepted, dash-text-accepted}
+use Rattle.table_texts.proofs.FieldsRead.{mixed-read}
+use Rattle.table_texts.proofs.LinesRead.{separated, parts-joined, PointLine, point-line-read, end-read, sizes-read}
+use Rattle.table_texts.proofs.PointLines.{listed-some, pointLines-more, pointLines-ext, pointLines-zero}
+
+-- ---- one line of a point
+
+-- the table t is read up to the point before `least`, and zero from there on
+record UpTo (z : Sizes) (least : ℕ) (t : List ℕ) : Type 0 where
+  long : length t ≡ 256
+  inside : least ≤ 2 ^ z .n
+  rest : (p : ℕ) → least ≤ p → at t p ≡ 0
+
+module _ (z : Sizes) (least : ℕ) (t : List ℕ) (g : UpTo z least t) (low : 2 ^ z .n ≤ 256) (p o : ℕ) (above : least ≤ p) (below : p < 2 ^ z .n) where
+  upTo-next : UpTo z (p + 1) (set t p o)
+  upTo-next =
+      record {
+        long = length-set t p o ∙ g .long;
+        inside = omega arith;
+        rest = λ q h. getD-set-other t p q o 0 (λ e. omega arith) ∙ g .rest q (omega arith);
+      }
+
+  -- the lines up to this point's
+  lines-next : (s : List ℕ) → (o ≡ 0 → ⊥)
+      → pointLines (z .m) (at t) least ++ (pointLine (z .m) p o ++ s) ≡ pointLines (z .m) (at (set t p o)) (p + 1) ++ s
+  lines-next s some =
+      let here : at (set t p o) p ≡ o = getD-set-same t p o 0 (omega (arith, g .long)) in
+      let before : pointLines (z .m) (at (set t p o)) p ≡ pointLines (z .m) (at t) p =
+      pointLines-ext (z .m) (at (set t p o)) (at t) p (λ q h. getD-set-other t p q o 0 (λ e. omega arith)) in
+      let earlier : pointLines (z .m) (at t) p ≡ pointLines (z .m) (at t) least = pointLines-zero (z .m) (at t) least p (g .rest) above in
+      rw (add-one, pointLines-more (z .m) (at (set t p o)) p s o here, listed-some o (pointLine (z .m) p o) some, before, earlier)
+
+-- ---- the lines after the first
+
+pointLine-ended : (m p o : ℕ) (l s : List ℕ) → l ≡ bytes "on" ++ tabbed (decimal p ∷ outputBytes m o ∷ []) → l ++ 10 ∷ s ≡ pointLine m p o ++ s
+unfolding pointLine line
+pointLine-ended m p o l s e = rw e (sym (append-assoc (bytes "on" ++ tabbed (decimal p ∷ outputBytes m o ∷ [])) (10 ∷ []) s))
+
+-- no byte stands after the `end` line
+record Ended (z y : Sizes) (t u l : List ℕ) (ls : List (List ℕ)) : Type 0 where
+  sizes : z ≡ y
+  table : t ≡ u
+  none : l ++ separated 10 ls ≡ []
+
+ended-read : (z y : Sizes) (number : ℕ) (t u l : List ℕ) (ls : List (List ℕ)) → ended z number t l ls ≡ given y u → Ended z y t u l ls
+unfolding ended separated
+ended-read z y number t u [] [] e = record { sizes = cc; table = cc; none = refl }
+ended-read z y number t u [] (l ∷ ls) e = absurd (no-refusal e)
+ended-read z y number t u (b ∷ l) ls e = absurd (no-refusal e)
+
+-- the sizes given are z, and the text from its second line on is the points' lines and the `end` line
+record LinesRead (z y : Sizes) (u s : List ℕ) : Type 0 where
+  sizes : z ≡ y
+  characters : s ≡ pointLines (z .m) (at u) (2 ^ z .n) ++ line (bytes "end") []
+
+end-line : bytes "end" ++ 10 ∷ [] ≡ line (bytes "end") []
+unfolding line tabbed bytes
+end-line = refl
+
+lines-read : (ls : List (List ℕ)) (z y : Sizes) (number least : ℕ) (t u l : List ℕ) → 2 ^ z .n ≤ 256 → UpTo z least t
+    → laterLines z number least t l ls ≡ given y u → LinesRead z y u (pointLines (z .m) (at t) least ++ (l ++ separated 10 ls))
+unfolding laterLines separated
+lines-read [] z y number least t u l low g e = absurd (unfinished-refused l number y u e)
+lines-read (l′ ∷ ls) z y number least t u l low g e =
+    judged (laterLine (z .m) l) refl (λ p o. lines-read ls z y (number + 1) (p + 1) (set t p o) u l′ low) e
+  where
+    rest : List ℕ
+    rest = l′ ++ separated 10 ls
+
+    Whole : Type 0
+    Whole = LinesRead z y u (pointLines (z .m) (at t) least ++ (l ++ separated 10 (l′ ∷ ls)))
+
+    tested : (p o : ℕ) (b : Bool) → (ltb p (2 ^ z .n) && leb least p) ≡ b → PointLine (z .m) l p o
+        → (UpTo z (p + 1) (set t p o) → laterLines z (number + 1) (p + 1) (set t p o) l′ ls ≡ given y u
+        → LinesRead z y u (pointLines (z .m) (at (set t p o)) (p + 1) ++ rest))
+        → cond b (laterLines z (number + 1) (p + 1) (set t p o) l′ ls) (refused 5 number) ≡ given y u → Whole
+    tested p o true h says ih f =
+        let below : p < 2 ^ z .n = ltb-true p (2 ^ z .n) (and-left (ltb p (2 ^ z .n)) (leb least p) h) in
+        let above : least ≤ p = leb-true least p (and-right (ltb p (2 ^ z .n)) (leb least p) h) in
+        let passed : pointLines (z .m) (at t) least ++ (l ++ 10 ∷ rest) ≡ pointLines (z .m) (at (set t p o)) (p + 1) ++ rest =
+        ap (λ (s : List ℕ). pointLines (z .m) (at t) least ++ s) (pointLine-ended (z .m) p o l rest (says .characters))
+        ∙ lines-next z least t g low p o above below rest (says .some) in
+        subst (LinesRead z y u) (sym passed) (ih (upTo-next z least t g low p o above below) f)
+    tested p o false h says ih f = absurd (no-refusal f)
+
+    judged : (x : LaterLine) → laterLine (z .m) l ≡ x
+        → ((p o : ℕ) → UpTo z (p + 1) (set t p o) → laterLines z (number + 1) (p + 1) (set t p o) l′ ls ≡ given y u
+        → LinesRead z y u (pointLines (z .m) (at (set t p o)) (p + 1) ++ rest))
+        → judgedLater x z number least t (ended z number t l′ ls) (λ least table. laterLines z (number + 1) least table l′ ls) ≡ given y u
+        → Whole
+    judged (On p o) says ih f = tested p o (ltb p (2 ^ z .n) && leb least p) refl (point-line-read (z .m) l p o says) (ih p o) f
+    judged End says ih f =
+        let done = ended-read z y number t u l′ ls f in
+        let points : pointLines (z .m) (at t) least ≡ pointLines (z .m) (at u) (2 ^ z .n) =
+        sym (pointLines-zero (z .m) (at t) least (2 ^ z .n) (g .rest) (g .inside))
+        ∙ ap (λ (v : List ℕ). pointLines (z .m) (at v) (2 ^ z .n)) (done .table) in
+        record {
+          sizes = done .sizes;
+          characters = ap₂ _++_ points (ap₂ (λ (a b : List ℕ). a ++ 10 ∷ b) (end-read (z .m) l says) (done .none) ∙ end-line);
+        }
+    judged Wrong says ih f = absurd (no-refusal f)
+
+-- ---- the first line, and the text
+
+first-judged : (x : FirstLine) (z : Sizes) → judgedFirst x ≡ answer.Given z → x ≡ first.Table z
+unfolding judgedFirst
+first-judged first.Wrong z e = absurd (refused-given e)
+first-judged (first.Table y) z e = tested (outside (y .n)) (outside (y .m)) (ltb 3 (y .k) || ltb (y .n) (y .k)) e where
+  tested : (a b c : Bool)
+      → cond a (answer.Refused 2 1) (cond b (answer.Refused 3 1) (cond c (answer.Refused 4 1) (answer.Given y))) ≡ answer.Given z
+      → first.Table y ≡ first.Table z
+  tested true b c f = absurd (refused-given f)
+  tested false true c f = absurd (refused-given f)
+  tested false false true f = absurd (refused-given f)
+  tested false false false f = cc
+
+-- the characters that stand for k, and the text that is written with them
+pub record TextRead (s : List ℕ) (z : Sizes) (t : List ℕ) : Type 0 where
+  pub mixed-field : List ℕ
+  pub said : mixed mixed-field ≡ Is (z .k)
+  pub characters : s ≡ textWith mixed-field z t
+
+text-joined : (k : List ℕ) (z : Sizes) (t l s : List ℕ) → l ≡ bytes "table" ++ tabbed (decimal (z .n) ∷ decimal (z .m) ∷ k ∷ [])
+    → s ≡ pointLines (z .m) (at t) (2 ^ z .n) ++ line (bytes "end") [] → l ++ 10 ∷ s ≡ textWith k z t
+unfolding textWith sizesLine line
+text-joined k z t l s e h =
+    let word : List ℕ = bytes "table" ++ tabbed (decimal (z .n) ∷ decimal (z .m) ∷ k ∷ []) in
+    let points : List ℕ = pointLines (z .m) (at t) (2 ^ z .n) in
+    let last : List ℕ = line (bytes "end") [] in
+    ap₂ (λ (a b : List ℕ). a ++ 10 ∷ b) e h
+    ∙ sym (append-assoc (word ++ 10 ∷ []) points last ∙ append-assoc word (10 ∷ []) (points ++ last))
+
+none-read : (z : Sizes) → UpTo z 0 (replicate 256 0)
+none-read z = record { long = length-replicate {A = ℕ} 256 0; inside = omega arith; rest = λ p h. getD-zeros 256 p }
+
+all-read : (l : List ℕ) (ls : List (List ℕ)) (z : Sizes) (t : List ℕ) → allLines l ls ≡ given z t → TextRead (l ++ separated 10 ls) z t
+unfolding allLines separated pointLines
+all-read l [] z t e = absurd (unfinished-refused l 1 z t e)
+all-read l (l′ ∷ ls) z t e = judged (judgedFirst (firstLine l)) refl e where
+  judged : (x : ReadAnswer) → judgedFirst (firstLine l) ≡ x → opened x (λ y. laterLines y 2 0 (replicate 256 0) l′ ls) ≡ given z t
+      → TextRead (l ++ separated 10 (l′ ∷ ls)) z t
+  judged (answer.Given y) says f =
+      let low : 2 ^ y .n ≤ 256 = points-le (y .n) (first-sized (firstLine l) y says .n-in .1) in
+      let sizes = sizes-read l y (first-judged (firstLine l) y says) in
+      let lines = lines-read ls y z 2 0 (replicate 256 0) t l′ low (none-read y) f in
+      subst (λ (x : Sizes). TextRead (l ++ separated 10 (l′ ∷ ls)) x t) (lines .sizes)
+      (record {
+        mixed-field = sizes .mixed-field;
+        said = sizes .said;
+        characters = text-joined (sizes .mixed-field) y t l (l′ ++ separated 10 ls) (sizes .characters) (lines .characters);
+      })
+  judged (answer.Refused number at) says f = absurd (no-refusal f)
+
+pub text-read : (s : List ℕ) (z : Sizes) (t : List ℕ) → reading s ≡ given z t → TextRead s z t
+unfolding reading
+text-read s z t e = subst (λ (r : List ℕ). TextRead r z t) (parts-joined 10 s) (all-read (parts 10 s .first) (parts 10 s .others) z t e)
+
+pub accepted-text : (s : List ℕ) (z : Sizes) (t : List ℕ) → reading s ≡ given z t
+    → (s ≡ tableText z t) ⊎ ((z .k ≡ 1) × (s ≡ dashText z t))
+unfolding tableText dashText
+accepted-text s z t e = go (text-read s z t e) where
+  go : TextRead s z t → (s ≡ textWith (decimal (z .k)) z t) ⊎ ((z .k ≡ 1) × (s ≡ textWith (bytes "-") z t))
+  go r = either (mixed-read (r .mixed-field) (z .k) (r .said)) where
+    with : (k : List ℕ) → r .mixed-field ≡ k → s ≡ textWith k z t
+    with k h = r .characters ∙ ap (λ (k : List ℕ). textWith k z t) h
+
+    either : (r .mixed-field ≡ decimal (z .k)) ⊎ ((z .k ≡ 1) × (r .mixed-field ≡ bytes "-"))
+        → (s ≡ textWith (decimal (z .k)) z t) ⊎ ((z .k ≡ 1) × (s ≡ textWith (bytes "-") z t))
+    either (inl h) = inl (with (decimal (z .k)) h)
+    either (inr h) = inr (h .0, with (bytes "-") (h .1))
+
+pub accepted-exactly : (s : List ℕ) (z : Sizes) (t : List ℕ)
+    → (reading s ≡ given z t) ↔ (Accepted z t × ((s ≡ tableText z t) ⊎ ((z .k ≡ 1) × (s ≡ dashText z t))))
+accepted-exactly s z t = (λ e. (reading-accepted s z t e, accepted-text s z t e), λ h. back (h .0) (h .1)) where
+  back : Accepted z t → (s ≡ tableText z t) ⊎ ((z .k ≡ 1) × (s ≡ dashText z t)) → reading s ≡ given z t
+  back g (inl e) = ap reading e ∙ table-text-accepted z t g
+  back g (inr e) = ap reading (e .1) ∙ dash-text-accepted z t g (e .0)

@@ -1,0 +1,153 @@
+-- A field that says a number or outputs is the field that is written for them: there is one way to write a point (`point-read`) and
+-- outputs (`outputs-read`), and for k one digit or `-` (`mixed-read`).
+use mathlib.Core.Bool.{Bool, true, false, cond, _&&_, not, false≢true}
+use mathlib.Core.List.{List, [], _∷_}
+use mathlib.Core.Logic.{_⊎_, inl, inr}
+use mathlib.Core.Path.{_≡_, refl, sym, ap, ap₂, _∙_}
+use Prim.Native.Nat.{ℕ, suc, _+_, _-_, _*_, _/_, _%_, _≤_, _<_}
+use native.Mathlib.Omega.{arith}
+use borrow.Author.Tests.{leb-true, eqb-true, eqb-false, not-true}
+use lib.Dec.{leb, ltb, eqb}
+use lib.ListN.{length}
+use Rattle.text.specs.declared.fields.Number.the-variants.{Is, Wrong}
+use Rattle.text.specs.declared.fields.Number.{Number}
+use Rattle.text.specs.Fields.{bytes, same, andThen, digit, oneDigit, mixed, digitsFrom, wellFormed, point, bits, outputs}
+use Rattle.text.specs.Listing.{decimal, outputBytes}
+use Rattle.text.proofs.Numbers.{wrong-is, digit-lt, wellFormed-le}
+use Rattle.text.proofs.Tests.{and-left, and-right}
+use Rattle.table_texts.proofs.Written.{decimal-one, decimal-two, decimal-three, outputs-cons, outputs-none}
+
+-- ---- words
+
+pub same-equal : (f w : List ℕ) → same f w ≡ true → f ≡ w
+unfolding same
+same-equal [] [] e = refl
+same-equal [] (w ∷ ws) e = absurd (false≢true e)
+same-equal (b ∷ f) [] e = absurd (false≢true e)
+same-equal (b ∷ f) (w ∷ ws) e =
+    ap₂ _∷_ (eqb-true b w (and-left (eqb b w) (same f ws) e)) (same-equal f ws (and-right (eqb b w) (same f ws) e))
+
+-- ---- one digit
+
+-- a number that is read under a test: the test passes
+under-test : (t : Bool) (x : Number) (v : ℕ) → cond t x Wrong ≡ Is v → (t ≡ true) × (x ≡ Is v)
+under-test true x v e = (refl, e)
+under-test false x v e = absurd (wrong-is e)
+
+digit-byte : (base b v : ℕ) → digit base b ≡ Is v → b ≡ 48 + v
+unfolding digit
+digit-byte base b v e =
+    let passes = under-test (leb 48 b && ltb (b - 48) base) (Is (b - 48)) v e in
+    let least : 48 ≤ b = leb-true 48 b (and-left (leb 48 b) (ltb (b - 48) base) (passes .0)) in
+    let said : Is (b - 48) ≡ Is v = passes .1 in
+    let value : b - 48 ≡ v = cc in
+    omega arith
+
+-- ---- n, m and k
+
+pub oneDigit-read : (f : List ℕ) (v : ℕ) → oneDigit f ≡ Is v → f ≡ decimal v
+unfolding oneDigit
+oneDigit-read [] v e = absurd (wrong-is e)
+oneDigit-read (b ∷ []) v e = rw (digit-byte 10 b v e) (sym (decimal-one v (digit-lt 10 b v e)))
+oneDigit-read (b ∷ b′ ∷ f) v e =
+    let passes = under-test (eqb (suc (suc (length f))) 1) (digit 10 b) v e in
+    absurd (omega (arith, eqb-true (suc (suc (length f))) 1 (passes .0)))
+
+pub mixed-read : (f : List ℕ) (v : ℕ) → mixed f ≡ Is v → (f ≡ decimal v) ⊎ ((v ≡ 1) × (f ≡ bytes "-"))
+unfolding mixed
+mixed-read f v e = go (same f (bytes "-")) refl e where
+  go : (t : Bool) → same f (bytes "-") ≡ t → cond t (Is 1) (oneDigit f) ≡ Is v → (f ≡ decimal v) ⊎ ((v ≡ 1) × (f ≡ bytes "-"))
+  go true h g = inr (cc, same-equal f (bytes "-") h)
+  go false h g = inl (oneDigit-read f v g)
+
+-- ---- points
+
+-- the first of the digits, and what the others say after it
+record FirstDigit (v b : ℕ) (f : List ℕ) (x : ℕ) : Type 0 where
+  value : ℕ
+  byte : b ≡ 48 + value
+  small : value < 10
+  others : digitsFrom (v * 10 + value) f ≡ Is x
+
+digits-cons : (v b : ℕ) (f : List ℕ) (x : ℕ) → digitsFrom v (b ∷ f) ≡ Is x → FirstDigit v b f x
+unfolding digitsFrom
+digits-cons v b f x e = go (digit 10 b) refl e where
+  go : (d : Number) → digit 10 b ≡ d → andThen d Wrong (λ d. digitsFrom (v * 10 + d) f) ≡ Is x → FirstDigit v b f x
+  go (Is d) h g = record { value = d; byte = digit-byte 10 b d h; small = digit-lt 10 b d h; others = g }
+  go Wrong h g = absurd (wrong-is g)
+
+digits-nil : (v x : ℕ) → digitsFrom v [] ≡ Is x → v ≡ x
+unfolding digitsFrom
+digits-nil v x e = cc
+
+-- "no leading zero (but `0`)"
+leading-digit : (b d : ℕ) → not (eqb b 48) ≡ true → b ≡ 48 + d → 1 ≤ d
+leading-digit b d h e = let other = eqb-false b 48 (not-true (eqb b 48) h) in omega (arith, other)
+
+digits-read : (f : List ℕ) (v : ℕ) → wellFormed f ≡ true → digitsFrom 0 f ≡ Is v → f ≡ decimal v
+unfolding wellFormed
+digits-read [] v h e = absurd (false≢true h)
+digits-read (a ∷ []) v h e =
+    let i = digits-cons 0 a [] v e in
+    let sum : i .value ≡ v = omega (arith, digits-nil (0 * 10 + i .value) v (i .others)) in
+    let low : a ≡ 48 + v = omega (arith, i .byte) in
+    rw low (sym (decimal-one v (omega (arith, i .small))))
+digits-read (a ∷ b ∷ []) v h e =
+    let i = digits-cons 0 a (b ∷ []) v e in
+    let j = digits-cons (0 * 10 + i .value) b [] v (i .others) in
+    let some : 1 ≤ i .value = leading-digit a (i .value) h (i .byte) in
+    let sum : i .value * 10 + j .value ≡ v = omega (arith, digits-nil ((0 * 10 + i .value) * 10 + j .value) v (j .others)) in
+    let high : a ≡ 48 + v / 10 = omega (arith, i .byte, j .small) in
+    let low : b ≡ 48 + v % 10 = omega (arith, j .byte, j .small) in
+    rw (high, low) (sym (decimal-two v (omega arith) (omega (arith, i .small, j .small))))
+digits-read (a ∷ b ∷ c ∷ []) v h e =
+    let i = digits-cons 0 a (b ∷ c ∷ []) v e in
+    let j = digits-cons (0 * 10 + i .value) b (c ∷ []) v (i .others) in
+    let k = digits-cons ((0 * 10 + i .value) * 10 + j .value) c [] v (j .others) in
+    let some : 1 ≤ i .value = leading-digit a (i .value) h (i .byte) in
+    let sum : (i .value * 10 + j .value) * 10 + k .value ≡ v =
+    omega (arith, digits-nil (((0 * 10 + i .value) * 10 + j .value) * 10 + k .value) v (k .others)) in
+    let high : a ≡ 48 + v / 100 = omega (arith, i .byte, j .small, k .small) in
+    let middle : b ≡ 48 + v / 10 % 10 = omega (arith, j .byte, j .small, k .small) in
+    let low : c ≡ 48 + v % 10 = omega (arith, k .byte, k .small) in
+    rw (high, middle, low) (sym (decimal-three v (omega arith) (omega (arith, i .small, j .small, k .small))))
+digits-read (a ∷ b ∷ c ∷ d ∷ f) v h e = absurd (omega (arith, wellFormed-le (a ∷ b ∷ c ∷ d ∷ f) h))
+
+pub point-read : (f : List ℕ) (v : ℕ) → point f ≡ Is v → f ≡ decimal v
+unfolding point
+point-read f v e =
+    let passes = under-test (wellFormed f) (digitsFrom 0 f) v e in
+    digits-read f v (passes .0) (passes .1)
+
+-- ---- outputs
+
+bits-read : (f : List ℕ) (v : ℕ) → bits f ≡ Is v → f ≡ outputBytes (length f) v
+unfolding bits
+bits-read [] v e = sym (outputs-none v)
+bits-read (b ∷ f) v e = go (digit 2 b) (bits f) refl refl (bits-read f) e where
+  go : (d r : Number) → digit 2 b ≡ d → bits f ≡ r → ((u : ℕ) → bits f ≡ Is u → f ≡ outputBytes (length f) u)
+      → andThen d Wrong (λ x. andThen r Wrong (λ u. Is (u * 2 + x))) ≡ Is v → b ∷ f ≡ outputBytes (suc (length f)) v
+  go (Is x) (Is u) p q ih g =
+      let sum : u * 2 + x ≡ v = cc in
+      let low : x ≡ v % 2 = omega (arith, digit-lt 2 b x p) in
+      let high : u ≡ v / 2 = omega (arith, digit-lt 2 b x p) in
+      ap₂ _∷_ (digit-byte 2 b x p ∙ ap (λ (y : ℕ). 48 + y) low) (ih u q ∙ ap (outputBytes (length f)) high) ∙ sym (outputs-cons (length f) v)
+  go (Is x) Wrong p q ih g = absurd (wrong-is g)
+  go Wrong r p q ih g = absurd (wrong-is g)
+
+pub outputs-read : (m : ℕ) (f : List ℕ) (v : ℕ) → outputs m f ≡ Is v → (f ≡ outputBytes m v) × (v ≡ 0 → ⊥)
+unfolding outputs
+outputs-read m f v e =
+    let passes = under-test (eqb (length f) m) (andThen (bits f) Wrong (λ v. cond (eqb v 0) Wrong (Is v))) v e in
+    go (bits f) refl (eqb-true (length f) m (passes .0)) (passes .1)
+  where
+    some : (u : ℕ) (t : Bool) → eqb u 0 ≡ t → cond t Wrong (Is u) ≡ Is v → (u ≡ v) × (v ≡ 0 → ⊥)
+    some u true h g = absurd (wrong-is g)
+    some u false h g = let value : u ≡ v = cc in (value, λ z. eqb-false u 0 h (value ∙ z))
+
+    go : (r : Number) → bits f ≡ r → length f ≡ m → andThen r Wrong (λ v. cond (eqb v 0) Wrong (Is v)) ≡ Is v
+        → (f ≡ outputBytes m v) × (v ≡ 0 → ⊥)
+    go (Is u) p long g =
+        let found = some u (eqb u 0) refl g in
+        (bits-read f u p ∙ ap₂ outputBytes long (found .0), found .1)
+    go Wrong p long g = absurd (wrong-is g)

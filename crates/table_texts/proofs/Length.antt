@@ -1,0 +1,140 @@
+-- An accepted text has at most 4,002 bytes (`accepted-text-length`), so that its first 8,192 bytes are the whole of it
+-- (`accepted-text-first`): "every text that can be accepted is shorter". There are accepted texts of 4,002 bytes (`longest-accepted`,
+-- `longest-length`).
+use mathlib.Core.Bool.{Bool, true, false}
+use mathlib.Core.List.{List}
+use mathlib.Core.Logic.{_⊎_, inl, inr}
+use mathlib.Core.Path.{_≡_, refl, _∙_}
+use Prim.Native.Nat.{ℕ, zero, suc, _+_, _*_, _^_, _≤_, _<_}
+use native.Mathlib.Omega.{arith}
+use borrow.Author.Tests.{ltb-true, ltb-false}
+use lib.Dec.{ltb, lit<, lit≤}
+use lib.ListN.{length, take, replicate, length-append, length-replicate, getD-replicate, List·getD-eq-default}
+use lib.Seq.{take-all}
+use Rattle.numbers.specs.Bytes.{at}
+use Rattle.numbers.specs.Sums.{foldBelow, sumBelow}
+use Rattle.text.specs.declared.read.Sizes.{Sizes}
+use Rattle.text.specs.Accepted.{Accepted}
+use Rattle.text.specs.Fields.{bytes}
+use Rattle.text.specs.Listing.{tabbed, line, digitCount, decimal}
+use Rattle.text.specs.Read.{given, reading}
+use Rattle.text.proofs.Accepted.{reading-accepted}
+use Rattle.text.proofs.Characters.{length-decimal, length-outputs}
+use Rattle.text.proofs.Longest.{digitCount-one}
+use Rattle.text.proofs.Powers.{points-le}
+use Rattle.table_texts.specs.TableTexts.{pointLine, ifListed, pointLines, sizesLine, textWith, tableText, dashText}
+use Rattle.table_texts.proofs.Acceptance.{table-text-accepted}
+use Rattle.table_texts.proofs.Exactness.{accepted-text}
+use Rattle.table_texts.proofs.PointLines.{listed-some, pointLines-zero}
+
+-- ---- the points' lines
+
+length-pointLine : (m p o : ℕ) → length (pointLine m p o) ≡ 5 + digitCount p + m
+unfolding pointLine line tabbed bytes
+length-pointLine m p o = simp (length-append, length-decimal, length-outputs) (omega arith)
+
+listed-le : (o : ℕ) (l : List ℕ) → length (ifListed o l) ≤ length l
+unfolding ifListed
+listed-le zero l = omega arith
+listed-le (suc o) l = omega arith
+
+pointLines-le : (m : ℕ) (f : ℕ → ℕ) (N : ℕ) → length (pointLines m f N) ≤ N * (5 + m) + sumBelow N digitCount
+unfolding pointLines foldBelow
+pointLines-le m f zero = omega arith
+pointLines-le m f (suc N) =
+    omega (
+      arith,
+      length-append (pointLines m f N) (ifListed (f N) (pointLine m N (f N))),
+      pointLines-le m f N,
+      listed-le (f N) (pointLine m N (f N)),
+      length-pointLine m N (f N),
+    )
+
+-- the digits of the points: 10 of one digit, 90 of two and 156 of three
+digits-total : sumBelow 256 digitCount ≡ 658
+unfolding foldBelow digitCount
+digits-total = refl
+
+-- ---- the text
+
+length-sizesLine : (z : Sizes) (k : List ℕ) → z .n < 10 → z .m < 10 → length k ≡ 1 → length (sizesLine z k) ≡ 12
+unfolding sizesLine line tabbed bytes
+length-sizesLine z k hn hm h =
+    simp (length-append, length-decimal) (omega (arith, digitCount-one (z .n) hn, digitCount-one (z .m) hm))
+
+length-textWith : (k : List ℕ) (z : Sizes) (t : List ℕ)
+    → length (textWith k z t) ≡ length (sizesLine z k) + length (pointLines (z .m) (at t) (2 ^ z .n)) + 4
+unfolding textWith line tabbed bytes
+length-textWith k z t = simp length-append (omega arith)
+
+text-length : (k : List ℕ) (z : Sizes) (t : List ℕ) → Accepted z t → length k ≡ 1 → length (textWith k z t) ≤ 4002
+text-length k z t g h =
+    let same : pointLines (z .m) (at t) 256 ≡ pointLines (z .m) (at t) (2 ^ z .n) =
+    pointLines-zero (z .m) (at t) (2 ^ z .n) 256 (g .table .rest) (points-le (z .n) (g .sized .n-in .1)) in
+    let points : length (pointLines (z .m) (at t) (2 ^ z .n)) ≤ 256 * (5 + z .m) + sumBelow 256 digitCount = rw same at (pointLines-le (z .m) (at t) 256) in
+    let first : length (sizesLine z k) ≡ 12 = length-sizesLine z k (omega (arith, g .sized .n-in)) (omega (arith, g .sized .m-in)) h in
+    omega (arith, length-textWith k z t, g .sized .m-in, digits-total)
+
+length-dash : length (bytes "-") ≡ 1
+unfolding bytes
+length-dash = refl
+
+pub accepted-text-length : (s : List ℕ) (z : Sizes) (t : List ℕ) → reading s ≡ given z t → length s ≤ 4002
+unfolding tableText dashText
+accepted-text-length s z t e = go (reading-accepted s z t e) (accepted-text s z t e) where
+  go : Accepted z t → (s ≡ tableText z t) ⊎ ((z .k ≡ 1) × (s ≡ dashText z t)) → length s ≤ 4002
+  go g (inl h) = rw h (text-length (decimal (z .k)) z t g (length-decimal (z .k) ∙ digitCount-one (z .k) (omega (arith, g .sized .k-in))))
+  go g (inr h) = rw (h .1) (text-length (bytes "-") z t g length-dash)
+
+-- "the first 8,192 bytes of standard input as the whole text"
+pub accepted-text-first : (s : List ℕ) (z : Sizes) (t : List ℕ) → reading s ≡ given z t → take 8192 s ≡ s
+accepted-text-first s z t e = take-all 8192 s (omega (arith, accepted-text-length s z t e))
+
+-- ---- the longest text
+
+pointLines-full : (m : ℕ) (f : ℕ → ℕ) (N : ℕ) → ((p : ℕ) → p < N → f p ≡ 0 → ⊥) → length (pointLines m f N) ≡ N * (5 + m) + sumBelow N digitCount
+unfolding pointLines foldBelow
+pointLines-full m f zero some = omega arith
+pointLines-full m f (suc N) some =
+    let last : ifListed (f N) (pointLine m N (f N)) ≡ pointLine m N (f N) = listed-some (f N) (pointLine m N (f N)) (some N (omega arith)) in
+    length-append (pointLines m f N) (ifListed (f N) (pointLine m N (f N)))
+    ∙ rw (last, length-pointLine m N (f N), pointLines-full m f N (λ p h. some p (omega arith))) (omega arith)
+
+-- eight inputs, eight outputs, and every output 1 at every point
+abbrev pub fullSizes : ℕ → Sizes
+fullSizes k = record { n = 8; m = 8; k = k }
+
+abbrev pub fullTable : List ℕ
+fullTable = replicate 256 255
+
+full-point : (p : ℕ) → p < 256 → at fullTable p ≡ 255
+full-point p h = getD-replicate {A = ℕ} 256 p 255 0 h
+
+full-rest : (p : ℕ) → 256 ≤ p → at fullTable p ≡ 0
+full-rest p h = List·getD-eq-default fullTable 0 {n = p} (rw length-replicate h)
+
+full-small : (p : ℕ) → at fullTable p < 256
+full-small p = go (ltb p 256) refl where
+  go : (b : Bool) → ltb p 256 ≡ b → at fullTable p < 256
+  go true e = rw (full-point p (ltb-true p 256 e)) (lit< tt)
+  go false e = rw (full-rest p (ltb-false p 256 e)) (lit< tt)
+
+full-accepted : (k : ℕ) → k ≤ 3 → Accepted (fullSizes k) fullTable
+full-accepted k h =
+    record {
+      sized = record { n-in = (lit≤ tt, lit≤ tt); m-in = (lit≤ tt, lit≤ tt); k-in = (h, omega arith) };
+      table = record { long = length-replicate {A = ℕ} 256 255; small = full-small; rest = full-rest };
+    }
+
+pub longest-accepted : (k : ℕ) → k ≤ 3 → reading (tableText (fullSizes k) fullTable) ≡ given (fullSizes k) fullTable
+longest-accepted k h = table-text-accepted (fullSizes k) fullTable (full-accepted k h)
+
+-- the bound is met
+pub longest-length : (k : ℕ) → k ≤ 3 → length (tableText (fullSizes k) fullTable) ≡ 4002
+unfolding tableText
+longest-length k h =
+    let points : length (pointLines 8 (at fullTable) 256) ≡ 256 * (5 + 8) + sumBelow 256 digitCount =
+    pointLines-full 8 (at fullTable) 256 (λ p l e. omega (arith, full-point p l)) in
+    let first : length (sizesLine (fullSizes k) (decimal k)) ≡ 12 =
+    length-sizesLine (fullSizes k) (decimal k) (lit< tt) (lit< tt) (length-decimal k ∙ digitCount-one k (omega arith)) in
+    omega (arith, length-textWith (decimal k) (fullSizes k) fullTable, digits-total)

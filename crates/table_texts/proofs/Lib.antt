@@ -1,0 +1,7 @@
+pub mod Written
+pub mod PointLines
+pub mod Acceptance
+pub mod FieldsRead
+pub mod LinesRead
+pub mod Exactness
+pub mod Length
