@@ -1,10 +1,10 @@
 -- Document 01, "The block table": functions of three inputs and one output as bytes, the table's entries, and what they tell of a block
 -- of fewer inputs and several outputs.
 use mathlib.Core.List.{List}
-use Prim.Native.Nat.{ℕ, _*_, _/_, _%_, _^_}
+use Prim.Native.Nat.{ℕ, _/_, _%_, _^_}
 use lib.Bits.{bitOr}
 use Rattle.numbers.specs.Bytes.{tabulate}
-use Rattle.numbers.specs.Sums.{foldBelow, sumBelow}
+use Rattle.numbers.specs.Sums.{foldBelow}
 use Rattle.numbers.specs.Bits.{bit, pack}
 use Rattle.algebra.specs.Coefficients.{coefficient}
 

@@ -1,6 +1,6 @@
 -- Tests: two that follow from one another are one (`same-test`), tests joined by `_&&_` and `_||_`, and a number by a test.
 use mathlib.Core.Path.{_≡_, refl, subst}
-use mathlib.Core.Bool.{Bool, true, false, _&&_}
+use mathlib.Core.Bool.{Bool, true, false, _&&_, _||_, true≢false, false≢true}
 use Prim.Native.Nat.{ℕ}
 use lib.Bits.{bitXor}
 use lib.Dec.{eqb, T, eqb→eq, eqb-refl}
@@ -35,6 +35,24 @@ and-left false b t = t
 pub and-right : (a b : Bool) → T (a && b) → T b
 and-right true b t = t
 and-right false b t = absurd t
+
+-- tests as equations: both pass where `_&&_` passes, and both fail where `_||_` fails
+
+pub both-left : (s t : Bool) → (s && t) ≡ true → s ≡ true
+both-left true t e = refl
+both-left false t e = e
+
+pub both-right : (s t : Bool) → (s && t) ≡ true → t ≡ true
+both-right true t e = e
+both-right false t e = absurd (false≢true e)
+
+pub neither-left : (s t : Bool) → (s || t) ≡ false → s ≡ false
+neither-left true t e = e
+neither-left false t e = refl
+
+pub neither-right : (s t : Bool) → (s || t) ≡ false → t ≡ false
+neither-right true t e = absurd (true≢false e)
+neither-right false t e = e
 
 -- ---- `only`
 

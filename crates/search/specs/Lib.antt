@@ -1,4 +1,3 @@
 pub mod Expansion
-pub mod Search
 pub mod Calls
-pub mod Designs
+pub mod inner

@@ -8,7 +8,7 @@ ghost use lib.ListN.{length};
 ghost use Rattle.numbers.specs.Bytes.{at, tabulate};
 ghost use Rattle.expansions.specs.BlockTable.{entry, blockTable};
 ghost use Rattle.expansions.specs.Charges.{byteCharge};
-ghost use Rattle.search.specs.Search.{usedAt, usedCharge, IsCheapest};
+ghost use Rattle.search.specs.inner.Search.{usedAt, usedCharge, IsCheapest};
 use crate::points::ones_in;
 
 // The literal count of each of the eight terms.

@@ -1,14 +1,14 @@
 // The search over the pairs of M and i: every M of k inputs and every i with the bits of M zero, in ascending order of M * 2^n + i.
 // The main property: `first_least` hands up the first pair of least charge, every block having its first least polarity.
 ghost use mathlib.Core.Path.{_≡_};
-ghost use Prim.Native.Nat.{ℕ, suc, _+_, _-_, _*_, _^_, _≤_, _<_};
+ghost use Prim.Native.Nat.{suc, _+_, _-_, _*_, _^_, _<_};
 ghost use lib.Count.{onesIn, ones};
 ghost use lib.ListN.{length};
 ghost use Rattle.numbers.specs.Bytes.{at, tabulate};
 ghost use Rattle.expansions.specs.BlockTable.{blockTable};
 ghost use Rattle.expansions.specs.Charges.{byteCharge};
 ghost use Rattle.expansions.specs.Answers.{pairCharge};
-ghost use Rattle.search.specs.Search.{Limits, Given, Room, Tried, usedAt, usedCharge, Leads};
+ghost use Rattle.search.specs.inner.Search.{Limits, Given, Room, Tried, usedAt, usedCharge, Leads};
 use crate::charges::cheapest_block;
 use crate::planes::expand_planes;
 use crate::planes::lay_out;

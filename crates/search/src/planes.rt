@@ -1,11 +1,11 @@
 // The table's outputs laid out for one mixed set: by block and place, and then, for each output, a byte for each block whose bits are
 // the places. The transform of those bytes over the inputs outside the mixed set gives the function of each block.
 ghost use mathlib.Core.Path.{_≡_};
-ghost use Prim.Native.Nat.{ℕ, _+_, _-_, _*_, _/_, _%_, _^_, _<_, _≤_};
+ghost use Prim.Native.Nat.{_+_, _-_, _*_, _/_, _%_, _^_, _<_, _≤_};
 ghost use lib.ListN.{length};
 ghost use Rattle.numbers.specs.Bytes.{at, tabulate};
 ghost use Rattle.numbers.specs.Bits.{bit, pack};
-ghost use Rattle.search.specs.Search.{Limits, placeByte, planeByte, planesOf, Tried, HoldsBlocks};
+ghost use Rattle.search.specs.inner.Search.{Limits, placeByte, planeByte, planesOf, Tried, HoldsBlocks};
 use crate::points::gather;
 use crate::points::join;
 use crate::points::outside;

@@ -1,18 +1,15 @@
 // The expansion record of the pair that was found: the first least polarity of each block, and the coefficients under them.
 ghost use mathlib.Core.Path.{_≡_};
 ghost use Prim.Native.Nat.{ℕ, _+_, _-_, _*_, _^_, _≤_, _<_};
-ghost use lib.Count.{onesIn, ones};
-ghost use lib.Dec.{ltb};
+ghost use lib.Count.{onesIn};
 ghost use lib.ListN.{length};
 ghost use Rattle.numbers.specs.Bytes.{at, tabulate};
 ghost use Rattle.numbers.specs.Bits.{bit, pack};
-ghost use Rattle.numbers.specs.Tests.{only};
 ghost use Rattle.expansions.specs.Split as Split;
 ghost use Rattle.expansions.specs.BlockTable.{entry, blockTable};
 ghost use Rattle.expansions.specs.Charges.{byteCharge};
-ghost use Rattle.expansions.specs.Answers.{leastPolarity};
 ghost use Rattle.search.specs.Expansion.{answerExpansion};
-ghost use Rattle.search.specs.Search.{Limits, Given, Room, usedAt, usedCharge, polarityAt, coefficientAt, Leads};
+ghost use Rattle.search.specs.inner.Search.{Limits, Given, Room, polarityAt, coefficientAt, Leads};
 use crate::charges::cheapest_block;
 use crate::expansion::Expansion;
 use crate::pairs::Leader;

@@ -1,12 +1,12 @@
 // The minimising search: it hands up the expansion record of document 01's answer.
 ghost use mathlib.Core.Path.{_≡_};
-ghost use Prim.Native.Nat.{ℕ, _*_, _-_, _^_, _≤_, _<_};
+ghost use Prim.Native.Nat.{_-_, _<_};
 ghost use lib.ListN.{length};
 ghost use Rattle.numbers.specs.Bytes.{at, tabulate};
 ghost use Rattle.expansions.specs.BlockTable.{blockTable};
 ghost use Rattle.expansions.specs.Charges.{byteCharge};
 ghost use Rattle.search.specs.Expansion.{answerExpansion, searchable, searched};
-ghost use Rattle.search.specs.Search.{Limits, Given, Room};
+ghost use Rattle.search.specs.inner.Search.{Limits, Given, Room};
 use crate::block_table::block_table;
 use crate::charges::byte_charges;
 use crate::expansion::Expansion;

@@ -16,17 +16,18 @@ use Rattle.text.specs.declared.fields.Number.the-variants.{Is}
 use Rattle.text.specs.declared.lines.FirstLine.the-variants as first
 use Rattle.text.specs.declared.lines.LaterLine.the-variants.{On, End}
 use Rattle.text.specs.declared.read.ReadAnswer.the-variants as answer
-use Rattle.text.specs.declared.read.Sizes.{Sizes}
-use Rattle.text.specs.Cursor.{parts}
-use Rattle.text.specs.Fields.{bytes, same, mixed}
-use Rattle.text.specs.Lines.{fields, headed, firstLine, laterLine}
-use Rattle.text.specs.Listing.{tabbed, line, decimal, outputBytes}
-use Rattle.text.specs.Accepted.{Sized, Table, Accepted}
+use Rattle.text.specs.declared.sizes.Sizes.{Sizes}
+use Rattle.listings.specs.Parts.{parts, bytes, same, fields}
+use Rattle.text.specs.Fields.{mixed}
+use Rattle.text.specs.Lines.{headed, firstLine, laterLine}
+use Rattle.listings.specs.Listing.{tabbed, line, decimal, outputBytes}
+use Rattle.numbers.specs.Refusals.{Sized}
+use Rattle.text.specs.Accepted.{Table, Accepted}
 use Rattle.text.specs.Read.{Reading, given, ended, laterLines, outside, judgedFirst, allLines, reading}
-use Rattle.text.proofs.Accepted.{getD-zeros}
-use Rattle.text.proofs.Joined.{Plain, parts-fields, parts-lines}
-use Rattle.text.proofs.Meaning.{plain-decimal, plain-outputs}
-use Rattle.text.proofs.Powers.{points-le}
+use Rattle.text.proofs.read.Accepted.{getD-zeros}
+use Rattle.listings.proofs.Joined.{Plain, parts-fields, parts-lines}
+use Rattle.listings.proofs.Meaning.{plain-decimal, plain-outputs}
+use Rattle.numbers.proofs.Shifts.{points-le}
 use Rattle.table_texts.specs.TableTexts.{pointLine, ifListed, pointLines, sizesLine, textWith, tableText, dashText}
 use Rattle.table_texts.proofs.Written.{oneDigit-decimal, mixed-decimal, mixed-dash, point-decimal, outputs-written}
 use Rattle.table_texts.proofs.PointLines.{pointLines-more}

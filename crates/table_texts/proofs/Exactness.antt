@@ -19,16 +19,16 @@ use Rattle.text.specs.declared.lines.LaterLine.the-variants.{On, End, Wrong}
 use Rattle.text.specs.declared.lines.LaterLine.{LaterLine}
 use Rattle.text.specs.declared.read.ReadAnswer.the-variants as answer
 use Rattle.text.specs.declared.read.ReadAnswer.{ReadAnswer}
-use Rattle.text.specs.declared.read.Sizes.{Sizes}
-use Rattle.text.specs.Cursor.{parts}
-use Rattle.text.specs.Fields.{bytes, mixed}
+use Rattle.text.specs.declared.sizes.Sizes.{Sizes}
+use Rattle.listings.specs.Parts.{parts, bytes}
+use Rattle.text.specs.Fields.{mixed}
 use Rattle.text.specs.Lines.{firstLine, laterLine}
-use Rattle.text.specs.Listing.{tabbed, line, decimal, outputBytes}
+use Rattle.listings.specs.Listing.{tabbed, line, decimal, outputBytes}
 use Rattle.text.specs.Accepted.{Accepted}
 use Rattle.text.specs.Read.{given, refused, ended, judgedLater, laterLines, outside, judgedFirst, opened, allLines, reading}
-use Rattle.text.proofs.Accepted.{no-refusal, unfinished-refused, refused-given, getD-zeros, first-sized, reading-accepted}
-use Rattle.text.proofs.Powers.{points-le}
-use Rattle.text.proofs.Tests.{and-left, and-right}
+use Rattle.text.proofs.read.Accepted.{no-refusal, unfinished-refused, refused-given, getD-zeros, first-sized, reading-accepted}
+use Rattle.numbers.proofs.Shifts.{points-le}
+use Rattle.numbers.proofs.Tests.{both-left, both-right}
 use Rattle.table_texts.specs.TableTexts.{pointLine, pointLines, sizesLine, textWith, tableText, dashText}
 use Rattle.table_texts.proofs.Acceptance.{table-text-accepted, dash-text-accepted}
 use Rattle.table_texts.proofs.FieldsRead.{mixed-read}
@@ -107,8 +107,8 @@ lines-read (l′ ∷ ls) z y number least t u l low g e =
         → LinesRead z y u (pointLines (z .m) (at (set t p o)) (p + 1) ++ rest))
         → cond b (laterLines z (number + 1) (p + 1) (set t p o) l′ ls) (refused 5 number) ≡ given y u → Whole
     tested p o true h says ih f =
-        let below : p < 2 ^ z .n = ltb-true p (2 ^ z .n) (and-left (ltb p (2 ^ z .n)) (leb least p) h) in
-        let above : least ≤ p = leb-true least p (and-right (ltb p (2 ^ z .n)) (leb least p) h) in
+        let below : p < 2 ^ z .n = ltb-true p (2 ^ z .n) (both-left (ltb p (2 ^ z .n)) (leb least p) h) in
+        let above : least ≤ p = leb-true least p (both-right (ltb p (2 ^ z .n)) (leb least p) h) in
         let passed : pointLines (z .m) (at t) least ++ (l ++ 10 ∷ rest) ≡ pointLines (z .m) (at (set t p o)) (p + 1) ++ rest =
         ap (λ (s : List ℕ). pointLines (z .m) (at t) least ++ s) (pointLine-ended (z .m) p o l rest (says .characters))
         ∙ lines-next z least t g low p o above below rest (says .some) in

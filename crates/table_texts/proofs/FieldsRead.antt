@@ -11,10 +11,11 @@ use lib.Dec.{leb, ltb, eqb}
 use lib.ListN.{length}
 use Rattle.text.specs.declared.fields.Number.the-variants.{Is, Wrong}
 use Rattle.text.specs.declared.fields.Number.{Number}
-use Rattle.text.specs.Fields.{bytes, same, andThen, digit, oneDigit, mixed, digitsFrom, wellFormed, point, bits, outputs}
-use Rattle.text.specs.Listing.{decimal, outputBytes}
+use Rattle.listings.specs.Parts.{bytes, same}
+use Rattle.text.specs.Fields.{andThen, digit, oneDigit, mixed, digitsFrom, wellFormed, point, bits, outputs}
+use Rattle.listings.specs.Listing.{decimal, outputBytes}
 use Rattle.text.proofs.Numbers.{wrong-is, digit-lt, wellFormed-le}
-use Rattle.text.proofs.Tests.{and-left, and-right}
+use Rattle.numbers.proofs.Tests.{both-left, both-right}
 use Rattle.table_texts.proofs.Written.{decimal-one, decimal-two, decimal-three, outputs-cons, outputs-none}
 
 -- ---- words
@@ -25,7 +26,7 @@ same-equal [] [] e = refl
 same-equal [] (w ∷ ws) e = absurd (false≢true e)
 same-equal (b ∷ f) [] e = absurd (false≢true e)
 same-equal (b ∷ f) (w ∷ ws) e =
-    ap₂ _∷_ (eqb-true b w (and-left (eqb b w) (same f ws) e)) (same-equal f ws (and-right (eqb b w) (same f ws) e))
+    ap₂ _∷_ (eqb-true b w (both-left (eqb b w) (same f ws) e)) (same-equal f ws (both-right (eqb b w) (same f ws) e))
 
 -- ---- one digit
 
@@ -38,7 +39,7 @@ digit-byte : (base b v : ℕ) → digit base b ≡ Is v → b ≡ 48 + v
 unfolding digit
 digit-byte base b v e =
     let passes = under-test (leb 48 b && ltb (b - 48) base) (Is (b - 48)) v e in
-    let least : 48 ≤ b = leb-true 48 b (and-left (leb 48 b) (ltb (b - 48) base) (passes .0)) in
+    let least : 48 ≤ b = leb-true 48 b (both-left (leb 48 b) (ltb (b - 48) base) (passes .0)) in
     let said : Is (b - 48) ≡ Is v = passes .1 in
     let value : b - 48 ≡ v = cc in
     omega arith

@@ -13,15 +13,15 @@ use lib.ListN.{length, take, replicate, length-append, length-replicate, getD-re
 use lib.Seq.{take-all}
 use Rattle.numbers.specs.Bytes.{at}
 use Rattle.numbers.specs.Sums.{foldBelow, sumBelow}
-use Rattle.text.specs.declared.read.Sizes.{Sizes}
+use Rattle.text.specs.declared.sizes.Sizes.{Sizes}
 use Rattle.text.specs.Accepted.{Accepted}
-use Rattle.text.specs.Fields.{bytes}
-use Rattle.text.specs.Listing.{tabbed, line, digitCount, decimal}
+use Rattle.listings.specs.Parts.{bytes}
+use Rattle.listings.specs.Listing.{tabbed, line, digitCount, decimal}
 use Rattle.text.specs.Read.{given, reading}
-use Rattle.text.proofs.Accepted.{reading-accepted}
-use Rattle.text.proofs.Characters.{length-decimal, length-outputs}
-use Rattle.text.proofs.Longest.{digitCount-one}
-use Rattle.text.proofs.Powers.{points-le}
+use Rattle.text.proofs.read.Accepted.{reading-accepted}
+use Rattle.listings.proofs.Characters.{length-decimal, length-outputs}
+use Rattle.listings.proofs.Longest.{digitCount-one}
+use Rattle.numbers.proofs.Shifts.{points-le}
 use Rattle.table_texts.specs.TableTexts.{pointLine, ifListed, pointLines, sizesLine, textWith, tableText, dashText}
 use Rattle.table_texts.proofs.Acceptance.{table-text-accepted}
 use Rattle.table_texts.proofs.Exactness.{accepted-text}

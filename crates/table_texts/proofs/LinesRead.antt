@@ -12,13 +12,13 @@ use Rattle.text.specs.declared.fields.Number.the-variants.{Is, Wrong}
 use Rattle.text.specs.declared.fields.Number.{Number}
 use Rattle.text.specs.declared.lines.FirstLine.the-variants as first
 use Rattle.text.specs.declared.lines.LaterLine.the-variants as later
-use Rattle.text.specs.declared.read.Sizes.{Sizes}
-use Rattle.text.specs.Cursor.{withByte, parts}
-use Rattle.text.specs.Fields.{bytes, same, oneDigit, mixed, point, outputs}
-use Rattle.text.specs.Lines.{fields, field, headed, tableLine, firstLine, onLine, laterLine}
-use Rattle.text.specs.Listing.{tabbed, decimal, outputBytes}
-use Rattle.text.proofs.Accepted.{wrong-on, end-on}
-use Rattle.text.proofs.Tests.{and-left, and-right}
+use Rattle.text.specs.declared.sizes.Sizes.{Sizes}
+use Rattle.listings.specs.Parts.{withByte, parts, bytes, same, fields, field}
+use Rattle.text.specs.Fields.{oneDigit, mixed, point, outputs}
+use Rattle.text.specs.Lines.{headed, tableLine, firstLine, onLine, laterLine}
+use Rattle.listings.specs.Listing.{tabbed, decimal, outputBytes}
+use Rattle.text.proofs.read.Accepted.{wrong-on, end-on}
+use Rattle.numbers.proofs.Tests.{both-left, both-right}
 use Rattle.table_texts.proofs.FieldsRead.{same-equal, oneDigit-read, point-read, outputs-read}
 
 -- ---- a text from its parts
@@ -60,8 +60,8 @@ list-three (a ∷ fs) e = ap (λ (l : List (List ℕ)). a ∷ l) (list-two fs (o
 headed-read : (count : ℕ) (word l : List ℕ) → headed (suc count) word l ≡ true → (length (parts 9 l .others) ≡ count) × (parts 9 l .first ≡ word)
 unfolding headed fields
 headed-read count word l e =
-    let many : suc (length (parts 9 l .others)) ≡ suc count = eqb-true _ (suc count) (and-left _ (same (parts 9 l .first) word) e) in
-    (omega arith, same-equal (parts 9 l .first) word (and-right (eqb (suc (length (parts 9 l .others))) (suc count)) _ e))
+    let many : suc (length (parts 9 l .others)) ≡ suc count = eqb-true _ (suc count) (both-left _ (same (parts 9 l .first) word) e) in
+    (omega arith, same-equal (parts 9 l .first) word (both-right (eqb (suc (length (parts 9 l .others))) (suc count)) _ e))
 
 -- ---- a line after the first
 

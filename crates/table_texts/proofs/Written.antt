@@ -13,11 +13,12 @@ use Rattle.numbers.specs.Bits.{bit}
 use Rattle.numbers.proofs.Bytes.{tabulate-ext}
 use Rattle.numbers.proofs.Bits.{bit-zero, bit-suc}
 use Rattle.text.specs.declared.fields.Number.the-variants.{Is}
-use Rattle.text.specs.Fields.{bytes, same, digit, oneDigit, mixed, digitsFrom, wellFormed, point, bits, outputs}
-use Rattle.text.specs.Listing.{descending, digitCount, decimal, outputBytes}
-use Rattle.text.proofs.Characters.{length-outputs}
-use Rattle.text.proofs.Cubes.{digitCount-bound}
-use Rattle.text.proofs.Longest.{digitCount-one}
+use Rattle.listings.specs.Parts.{bytes, same}
+use Rattle.text.specs.Fields.{digit, oneDigit, mixed, digitsFrom, wellFormed, point, bits, outputs}
+use Rattle.listings.specs.Listing.{descending, digitCount, decimal, outputBytes}
+use Rattle.listings.proofs.Characters.{length-outputs}
+use Rattle.listings.proofs.Cubes.{digitCount-bound}
+use Rattle.listings.proofs.Longest.{digitCount-one}
 
 -- ---- one digit
 

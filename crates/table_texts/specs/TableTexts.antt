@@ -3,9 +3,9 @@
 use mathlib.Core.List.{List, [], _∷_, _++_}
 use Prim.Native.Nat.{ℕ, zero, suc, _^_}
 use Rattle.numbers.specs.Bytes.{at}
-use Rattle.text.specs.declared.read.Sizes.{Sizes}
-use Rattle.text.specs.Fields.{bytes}
-use Rattle.text.specs.Listing.{line, decimal, outputBytes}
+use Rattle.text.specs.declared.sizes.Sizes.{Sizes}
+use Rattle.listings.specs.Parts.{bytes}
+use Rattle.listings.specs.Listing.{line, decimal, outputBytes}
 
 -- "`on`, point, outputs": the point p with the outputs o, of m outputs
 unfoldable pub pointLine : ℕ → ℕ → ℕ → List ℕ

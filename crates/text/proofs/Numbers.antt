@@ -15,7 +15,7 @@ use lib.Seq.{drop-cons}
 use Rattle.text.specs.declared.fields.Number.the-variants.{Is, Wrong}
 use Rattle.text.specs.declared.fields.Number.{Number}
 use Rattle.text.specs.Fields.{andThen, digit, digitsFrom, wellFormed, bits, outputs}
-use Rattle.text.proofs.Tests.{and-left, and-right}
+use Rattle.numbers.proofs.Tests.{both-left, both-right}
 
 -- ---- one digit
 
@@ -26,7 +26,7 @@ pub digit-lt : (base b v : ℕ) → digit base b ≡ Is v → v < base
 unfolding digit
 digit-lt base b v e = go (leb 48 b && ltb (b - 48) base) refl e where
   go : (t : Bool) → (leb 48 b && ltb (b - 48) base) ≡ t → cond t (Is (b - 48)) Wrong ≡ Is v → v < base
-  go true h g = let same : b - 48 ≡ v = cc in omega (arith, ltb-true (b - 48) base (and-right (leb 48 b) (ltb (b - 48) base) h))
+  go true h g = let same : b - 48 ≡ v = cc in omega (arith, ltb-true (b - 48) base (both-right (leb 48 b) (ltb (b - 48) base) h))
   go false h g = absurd (wrong-is g)
 
 -- ---- numbers, from the left
@@ -48,8 +48,8 @@ pub wellFormed-le : (f : List ℕ) → wellFormed f ≡ true → length f ≤ 3
 unfolding wellFormed
 wellFormed-le f e =
     leb-true (length f) 3
-    (and-right (leb 1 (length f)) (leb (length f) 3)
-    (and-left (leb 1 (length f) && leb (length f) 3) (eqb (length f) 1 || not (eqb (getD f 0 0) 48)) e))
+    (both-right (leb 1 (length f)) (leb (length f) 3)
+    (both-left (leb 1 (length f) && leb (length f) 3) (eqb (length f) 1 || not (eqb (getD f 0 0) 48)) e))
 
 -- k digits say a number below 10 ^ k, and one digit more keeps it so
 pub ten-le : (k : ℕ) → k ≤ 3 → 10 ^ k ≤ 1000

@@ -3,13 +3,8 @@ use mathlib.Core.List.{List}
 use mathlib.Core.Path.{_≡_}
 use Prim.Native.Nat.{ℕ, _^_, _<_, _≤_}
 use lib.ListN.{length, getD}
-use Rattle.text.specs.declared.read.Sizes.{Sizes}
-
--- sizes that are not refused
-pub record Sized (z : Sizes) : Type 0 where
-  pub n-in : (1 ≤ z .n) × (z .n ≤ 8)
-  pub m-in : (1 ≤ z .m) × (z .m ≤ 8)
-  pub k-in : (z .k ≤ 3) × (z .k ≤ z .n)
+use Rattle.numbers.specs.Refusals.{Sized}
+use Rattle.text.specs.declared.sizes.Sizes.{Sizes}
 
 -- a table of 256 bytes of m outputs, zero from 2 ^ n on
 pub record Table (z : Sizes) (t : List ℕ) : Type 0 where
@@ -19,5 +14,5 @@ pub record Table (z : Sizes) (t : List ℕ) : Type 0 where
 
 -- what the sizes and the table of an accepted text are
 pub record Accepted (z : Sizes) (t : List ℕ) : Type 0 where
-  pub sized : Sized z
+  pub sized : Sized (z .n) (z .m) (z .k)
   pub table : Table z t

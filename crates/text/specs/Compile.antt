@@ -3,19 +3,16 @@
 use mathlib.Core.Bool.{cond}
 use mathlib.Core.List.{List, _++_}
 use mathlib.Core.Path.{_≡_}
-use Prim.Native.Nat.{ℕ, _^_, _≤_, _<_}
+use Prim.Native.Nat.{ℕ, _≤_}
 use lib.Dec.{leb}
 use lib.ListN.{length, take, drop, replicate}
 use Rattle.numbers.specs.Bytes.{at}
-use Rattle.expansions.specs.Members.{Member, Gives}
-use Rattle.expansions.specs.Costs.{products, literals}
 use Rattle.search.specs.Expansion.{answerExpansion}
 use Rattle.text.specs.declared.compile.Compiled.{Compiled}
 use Rattle.text.specs.declared.compile.Compiled.the-variants.{Written, Refused}
-use Rattle.text.specs.declared.read.Sizes.{Sizes}
+use Rattle.text.specs.declared.sizes.Sizes.{Sizes}
 use Rattle.text.specs.Read.{Reading, given, refused, reading}
-use Rattle.text.specs.Listing.{listing}
-use Rattle.text.specs.Meaning.{listingValue, listingProducts, listingLiterals, statedProducts, statedLiterals}
+use Rattle.listings.specs.Listing.{listing}
 
 -- the listing of the answer for a table
 unfoldable pub answerListing : Sizes → List ℕ → List ℕ
@@ -33,21 +30,11 @@ bufferAfter (given z table) before =
     cond (leb (length (answerListing z table)) (length before)) (answerListing z table ++ drop (length (answerListing z table)) before) before
 bufferAfter (refused number line) before = before
 
--- Demand 3 of the bytes of a listing for the table f: "The listing's own lines give every output at every point; its first-line counts are
--- those of its lines; and every other expansion of the class at that k that gives the same outputs has at least as many products, and where
--- as many, at least as many literals."
-pub record IsListing (z : Sizes) (f : ℕ → ℕ) (bytes : List ℕ) : Type 0 where
-  pub gives : (p : ℕ) → p < 2 ^ z .n → listingValue bytes p ≡ f p
-  pub products-stated : statedProducts bytes ≡ listingProducts bytes
-  pub literals-stated : statedLiterals bytes ≡ listingLiterals bytes
-  pub cheapest : (M i : ℕ) (φ c : ℕ → ℕ) → Member (z .n) (z .k) M i φ → Gives (z .n) M i φ c f
-      → (listingProducts bytes ≤ products (z .n) c) × (listingProducts bytes ≡ products (z .n) c → listingLiterals bytes ≤ literals (z .n) c)
-
 -- the text call, for every text and every buffer
 pub record Compile (text before after : List ℕ) (r : Compiled) : Type 0 where
   pub answer : r ≡ compiled (reading text) (length before)
   pub bytes : after ≡ bufferAfter (reading text) before
-  pub meaning : (z : Sizes) (table : List ℕ) (written : ℕ) → reading text ≡ given z table → r ≡ Written written → IsListing z (at table) (take written after)
+  pub meaning : (z : Sizes) (table : List ℕ) (written : ℕ) → reading text ≡ given z table → r ≡ Written written → IsListing (z .n) (z .k) (at table) (take written after)
 
 -- the text call in a buffer of 5,916 bytes, at first all zero: every text that is accepted is written
 pub record CompileWhole (text after : List ℕ) (r : Compiled) : Type 0 where

@@ -1,26 +1,12 @@
 -- What the fields of a table text say. Document 01, "Text in, listing out".
-use mathlib.Core.Bool.{Bool, true, false, cond, _&&_, _||_, not}
+use mathlib.Core.Bool.{Bool, cond, _&&_, _||_, not}
 use mathlib.Core.List.{List, [], _∷_}
 use Prim.Native.Nat.{ℕ, _+_, _-_, _*_}
-use Prim.Native.Char.{code}
-use Prim.Native.String.{String}
 use Prim.Native.String as string
 use lib.Dec.{leb, ltb, eqb}
 use lib.ListN.{length, getD}
 use Rattle.text.specs.declared.fields.Number.{Number}
 use Rattle.text.specs.declared.fields.Number.the-variants.{Is, Wrong}
-
--- the bytes of a word
-unfoldable pub bytes : String → List ℕ
-bytes string.[] = []
-bytes (string._∷_ c s) = code c ∷ bytes s
-
--- whether two fields are the same bytes
-unfoldable pub same : List ℕ → List ℕ → Bool
-same [] [] = true
-same [] (w ∷ ws) = false
-same (b ∷ f) [] = false
-same (b ∷ f) (w ∷ ws) = eqb b w && same f ws
 
 -- what follows a number that is read, and what else is said where none is
 abbrev pub andThen : {A : Type 0} → Number → A → (ℕ → A) → A

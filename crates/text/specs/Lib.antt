@@ -1,10 +1,6 @@
-pub mod Cursor
 pub mod Fields
 pub mod Lines
 pub mod Read
-pub mod Steps
-pub mod Listing
-pub mod Meaning
-pub mod Write
 pub mod Accepted
 pub mod Compile
+pub mod inner

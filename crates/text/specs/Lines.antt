@@ -1,25 +1,16 @@
 -- What a line of a table text says, by its fields. Document 01, "Text in, listing out".
-use mathlib.Core.Bool.{Bool, true, false, cond, _&&_}
-use mathlib.Core.List.{List, [], _∷_}
+use mathlib.Core.Bool.{Bool, cond, _&&_}
+use mathlib.Core.List.{List}
 use Prim.Native.Nat.{ℕ}
 use lib.Dec.{eqb}
-use lib.ListN.{length, getD}
+use lib.ListN.{length}
 use Rattle.text.specs.declared.fields.Number.{Number}
-use Rattle.text.specs.declared.read.Sizes.{Sizes}
 use Rattle.text.specs.declared.lines.FirstLine.{FirstLine}
 use Rattle.text.specs.declared.lines.FirstLine.the-variants as first
 use Rattle.text.specs.declared.lines.LaterLine.{LaterLine}
 use Rattle.text.specs.declared.lines.LaterLine.the-variants as later
-use Rattle.text.specs.Cursor.{all, parts}
-use Rattle.text.specs.Fields.{bytes, same, andThen, oneDigit, mixed, point, outputs}
-
--- "Fields are parted by one tab (byte 9)."
-unfoldable pub fields : List ℕ → List (List ℕ)
-fields l = all (parts 9 l)
-
--- the field j of a line, counted from 0
-abbrev pub field : ℕ → List ℕ → List ℕ
-field j l = getD (fields l) j []
+use Rattle.listings.specs.Parts.{bytes, same}
+use Rattle.text.specs.Fields.{andThen, oneDigit, mixed, point, outputs}
 
 -- a line has so many fields, the first of them the given word
 unfoldable pub headed : ℕ → List ℕ → List ℕ → Bool

@@ -1,19 +1,20 @@
 -- What a table text means: its sizes and its table, or the refusal that it meets. Document 01, "Text in, listing out" and "Why a call
 -- declines".
-use mathlib.Core.Bool.{Bool, true, false, cond, _&&_, _||_}
+use mathlib.Core.Bool.{cond, _&&_}
 use mathlib.Core.List.{List, [], _∷_}
 use mathlib.Core.Path.{_≡_}
-use Prim.Native.Nat.{ℕ, _+_, _^_}
+use Prim.Native.Nat.{ℕ, zero, suc, _+_, _^_}
 use lib.Dec.{leb, ltb, eqb}
 use lib.ListN.{length, set, replicate}
-use Rattle.text.specs.declared.read.Sizes.{Sizes}
+use Rattle.numbers.specs.Refusals.{sizesRefusal}
+use Rattle.text.specs.declared.sizes.Sizes.{Sizes}
 use Rattle.text.specs.declared.lines.FirstLine.{FirstLine}
 use Rattle.text.specs.declared.lines.FirstLine.the-variants as first
 use Rattle.text.specs.declared.lines.LaterLine.{LaterLine}
 use Rattle.text.specs.declared.lines.LaterLine.the-variants as later
 use Rattle.text.specs.declared.read.ReadAnswer.{ReadAnswer}
 use Rattle.text.specs.declared.read.ReadAnswer.the-variants as answer
-use Rattle.text.specs.Cursor.{parts}
+use Rattle.listings.specs.Parts.{parts}
 use Rattle.text.specs.Lines.{firstLine, laterLine}
 
 -- "returns n, m, k" and "fills a lent table of 256 bytes"; "A refusal returns its number and the line"
@@ -46,17 +47,15 @@ laterLines sizes line least table l (l′ ∷ ls) =
     judgedLater (laterLine (sizes .m) l) sizes line least table (ended sizes line table l′ ls)
     (λ least table. laterLines sizes (line + 1) least table l′ ls)
 
--- "n is not 1 to 8", "m is not 1 to 8"
-unfoldable pub outside : ℕ → Bool
-outside x = ltb x 1 || ltb 8 x
+-- the sizes where they are not refused, and else their refusal, in line 1
+abbrev pub sizesJudged : ℕ → Sizes → ReadAnswer
+sizesJudged zero sizes = answer.Given sizes
+sizesJudged (suc x) sizes = answer.Refused (suc x) 1
 
 -- "In line 1 the order is 1, 2, 3, 4."
 unfoldable pub judgedFirst : FirstLine → ReadAnswer
 judgedFirst first.Wrong = answer.Refused 1 1
-judgedFirst (first.Table sizes) =
-    cond (outside (sizes .n)) (answer.Refused 2 1)
-    (cond (outside (sizes .m)) (answer.Refused 3 1)
-    (cond (ltb 3 (sizes .k) || ltb (sizes .n) (sizes .k)) (answer.Refused 4 1) (answer.Given sizes)))
+judgedFirst (first.Table sizes) = sizesJudged (sizesRefusal (sizes .n) (sizes .m) (sizes .k)) sizes
 
 -- what follows the first line, where it is not refused
 abbrev pub opened : ReadAnswer → (Sizes → Reading) → Reading

@@ -2,14 +2,14 @@
 // The main property, for every text and every buffer: the result and every byte of the buffer follow from what the text means, and where a
 // listing is written its own lines give every output of the table at every point, and no expansion of the class at that k is cheaper.
 use crate::read::ReadAnswer;
-use crate::read::Sizes;
+use crate::sizes::Sizes;
 use crate::read::read_table;
 use crate::write::Listed;
 use crate::write::write_listing;
 use search::search::search;
 ghost use mathlib.Core.Path.{_≡_};
 ghost use lib.ListN.{length};
-ghost use Rattle.text.specs.Read.{given, reading};
+ghost use Rattle.text.specs.Read.{given};
 ghost use Rattle.text.specs.Compile.{compiled, bufferAfter, Compile, CompileWhole};
 ghost use Rattle.text.specs.Accepted.{Accepted};
 

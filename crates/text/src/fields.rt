@@ -2,7 +2,8 @@
 // field says, or `Wrong` where it breaks the grammar.
 ghost use mathlib.Core.Path.{_≡_};
 ghost use Prim.Native.Nat.{_≤_, _<_};
-ghost use Rattle.text.specs.Fields.{same, digit, oneDigit, mixed, wellFormed, point, outputs};
+ghost use Rattle.listings.specs.Parts.{same};
+ghost use Rattle.text.specs.Fields.{digit, oneDigit, mixed, wellFormed, point, outputs};
 
 // What a field says that is to be a number.
 pub enum Number {
@@ -31,10 +32,10 @@ pub fn same(field: &[u8], word: &[u8]) -> bool
 fn digit(base: usize, b: u8) -> Number
     ensures { λ r. ⌜ r ≡ digit base b ⌝ }
 {
-    if b < 48 {
+    if b < b'0' {
         return Number::Wrong;
     }
-    let value = (b - 48) as usize;
+    let value = (b - b'0') as usize;
     if base <= value {
         return Number::Wrong;
     }
@@ -74,7 +75,7 @@ fn well_formed(field: &[u8]) -> bool
     if field.len() == 1 {
         return true;
     }
-    field[0] != 48
+    field[0] != b'0'
 }
 
 // A point: one to three digits, with no leading zero but `0`.

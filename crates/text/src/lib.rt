@@ -4,5 +4,6 @@ mod cursor;
 mod fields;
 mod lines;
 pub mod read;
+pub mod sizes;
 mod write;
 mod writer;

@@ -7,12 +7,12 @@ use crate::fields::one_digit;
 use crate::fields::outputs;
 use crate::fields::point;
 use crate::fields::same;
-use crate::read::Sizes;
+use crate::sizes::Sizes;
 ghost use mathlib.Core.Path.{_≡_};
-ghost use mathlib.Core.List.{[]};
 ghost use Prim.Native.Nat.{_≤_, _<_};
-ghost use lib.ListN.{length, getD};
-ghost use Rattle.text.specs.Lines.{fields, field, headed, tableLine, firstLine, onLine, laterLine};
+ghost use lib.ListN.{length};
+ghost use Rattle.listings.specs.Parts.{fields, field};
+ghost use Rattle.text.specs.Lines.{headed, tableLine, firstLine, onLine, laterLine};
 
 // What a first line says.
 pub enum FirstLine {
@@ -34,7 +34,7 @@ fn field_count(line: &[u8]) -> usize
     let mut cursor = Cursor::new();
     let mut count = 1;
     loop {
-        let stop = cursor.seek(line, 9);
+        let stop = cursor.seek(line, b'\t');
         if stop.at == line.len() {
             return count;
         }
@@ -50,7 +50,7 @@ fn field(line: &[u8], j: usize) -> &[u8]
     let mut cursor = Cursor::new();
     let mut left = j;
     while 0 < left {
-        let stop = cursor.seek(line, 9);
+        let stop = cursor.seek(line, b'\t');
         if stop.at == line.len() {
             return &line[..0];
         }
@@ -58,7 +58,7 @@ fn field(line: &[u8], j: usize) -> &[u8]
         left -= 1;
     }
     let from = cursor.at;
-    let stop = cursor.seek(line, 9);
+    let stop = cursor.seek(line, b'\t');
     let to = stop.at;
     &line[from..to]
 }

@@ -5,21 +5,16 @@ use crate::lines::FirstLine;
 use crate::lines::LaterLine;
 use crate::lines::first_line;
 use crate::lines::later_line;
+use crate::sizes::Sizes;
+use numbers::refusals::judge_sizes;
 ghost use mathlib.Core.Path.{_≡_};
 ghost use mathlib.Core.Bool.{cond, _&&_};
 ghost use Prim.Native.Nat.{ℕ, _+_, _^_, _≤_, _<_};
-ghost use lib.Dec.{ltb, leb, eqb};
+ghost use lib.Dec.{ltb, leb};
 ghost use lib.ListN.{length, set, replicate};
 ghost use Rattle.text.specs.Lines.{firstLine};
-ghost use Rattle.text.specs.Read.{refused, unfinished, outside, judgedFirst, reading, standsFor, ReadTable};
-ghost use Rattle.text.specs.Steps.{linesAt, Within, Stepped};
-
-// The inputs n, the outputs m and the mixed inputs k of a table.
-pub struct Sizes {
-    pub n: usize,
-    pub m: usize,
-    pub k: usize,
-}
+ghost use Rattle.text.specs.Read.{refused, unfinished, judgedFirst, reading, standsFor, ReadTable};
+ghost use Rattle.text.specs.inner.Steps.{linesAt, Within, Stepped};
 
 // The reading call's answer. A refusal has document 01's number and the line.
 pub enum ReadAnswer {
@@ -34,18 +29,11 @@ enum Step {
     Refused { number: usize, line: usize },
 }
 
-// Whether n or m is not 1 to 8.
-fn outside(x: usize) -> bool
-    ensures { λ r. ⌜ r ≡ outside x ⌝ }
-{
-    if x < 1 {
-        return true;
-    }
-    8 < x
-}
+// The bytes of the table that is lent: one for each point of eight inputs.
+const TABLE: usize = 256;
 
 // Puts a point's outputs into the table, if the point is below 2^n and at least `least`; else the table stays.
-fn place(n: usize, least: usize, point: usize, outputs: usize, table: &mut [u8; 256]) -> bool
+fn put_outputs(n: usize, least: usize, point: usize, outputs: usize, table: &mut [u8; TABLE]) -> bool
     requires { ⌜ (n ≤ 8) × (outputs < 256) ⌝ }
     ensures { λ r. ⌜ r ≡ (ltb point (2 ^ n) && leb least point) ⌝ }
     ensures { λ r. ⌜ now (table .exit) ≡ cond r (set (now (table .entry)) point outputs) (now (table .entry)) ⌝ }
@@ -73,13 +61,13 @@ fn judge_line(
     cursor: Cursor,
     sizes: Sizes,
     least: usize,
-    table: &mut [u8; 256],
+    table: &mut [u8; TABLE],
 ) -> Step
     requires { ⌜ (Within (now text) cursor) × (sizes .n ≤ 8) × (sizes .m ≤ 8) ⌝ }
     ensures { λ r. ⌜ Stepped (now (text .entry)) cursor sizes least (now (table .entry)) r (now (table .exit)) ⌝ }
 {
     let line = cursor.line;
-    let stop = cursor.seek(text, 10);
+    let stop = cursor.seek(text, b'\n');
     let from = cursor.at;
     let to = stop.at;
     if to == text.len() {
@@ -90,7 +78,7 @@ fn judge_line(
     }
     match later_line(sizes.m, &text[from..to]) {
         LaterLine::On { point, outputs } => {
-            if place(sizes.n, least, point, outputs, table) {
+            if put_outputs(sizes.n, least, point, outputs, table) {
                 return Step::Next(stop.next_line(), point + 1);
             }
             Step::Refused { number: 5, line }
@@ -109,7 +97,7 @@ fn judge_line(
 }
 
 // Judges the lines from the cursor on, and puts their outputs into the table.
-fn judge_lines(text: &[u8], start: Cursor, sizes: Sizes, table: &mut [u8; 256]) -> ReadAnswer
+fn judge_lines(text: &[u8], start: Cursor, sizes: Sizes, table: &mut [u8; TABLE]) -> ReadAnswer
     requires { ⌜ (Within (now text) start) × (sizes .n ≤ 8) × (sizes .m ≤ 8) ⌝ }
     ensures { λ r. ⌜ standsFor r (now (table .exit)) ≡ linesAt (now (text .entry)) sizes start 0 (now (table .entry)) ⌝ }
 {
@@ -134,27 +122,19 @@ fn judge_first(line: &[u8]) -> ReadAnswer
     let FirstLine::Table(sizes) = first_line(line) else {
         return ReadAnswer::Refused { number: 1, line: 1 };
     };
-    if outside(sizes.n) {
-        return ReadAnswer::Refused { number: 2, line: 1 };
-    }
-    if outside(sizes.m) {
-        return ReadAnswer::Refused { number: 3, line: 1 };
-    }
-    if 3 < sizes.k {
-        return ReadAnswer::Refused { number: 4, line: 1 };
-    }
-    if sizes.n < sizes.k {
-        return ReadAnswer::Refused { number: 4, line: 1 };
+    let number = judge_sizes(sizes.n, sizes.m, sizes.k);
+    if number != 0 {
+        return ReadAnswer::Refused { number, line: 1 };
     }
     ReadAnswer::Given(sizes)
 }
 
 // Judges the text from its first line on, and fills the table, which comes all zero.
-fn judge_text(text: &[u8], table: &mut [u8; 256]) -> ReadAnswer
+fn judge_text(text: &[u8], table: &mut [u8; TABLE]) -> ReadAnswer
     requires { ⌜ now table ≡ replicate 256 0 ⌝ }
     ensures { λ r. ⌜ standsFor r (now (table .exit)) ≡ reading (now (text .entry)) ⌝ }
 {
-    let stop = Cursor::new().seek(text, 10);
+    let stop = Cursor::new().seek(text, b'\n');
     let to = stop.at;
     if to == text.len() {
         return ReadAnswer::Refused {
@@ -185,11 +165,11 @@ fn copy(from: &[u8], to: &mut [u8])
 pub fn read_table(text: &[u8], table: &mut [u8]) -> ReadAnswer
     ensures { λ r. ⌜ ReadTable (now (text .entry)) (now (table .entry)) r (now (table .exit)) ⌝ }
 {
-    let mut rows = [0u8; 256];
+    let mut rows = [0u8; TABLE];
     let answer = judge_text(text, &mut rows);
     match answer {
         ReadAnswer::Given(_) => {
-            if table.len() != 256 {
+            if table.len() != TABLE {
                 return ReadAnswer::Refused { number: 8, line: 0 };
             }
             copy(&rows, table);

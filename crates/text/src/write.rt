@@ -9,9 +9,10 @@ ghost use mathlib.Core.List.{[], map};
 ghost use Prim.Native.Nat.{_+_, _*_, _^_, _≤_, _<_};
 ghost use lib.ListN.{length};
 ghost use Rattle.numbers.specs.Bytes.{at};
-ghost use Rattle.text.specs.Fields.{bytes};
-ghost use Rattle.text.specs.Listing.{tabbed, line, decimal, ifProduct, termLine, productLines, digitsOf};
-ghost use Rattle.text.specs.Write.{Put, Listable, WriteListing};
+ghost use Rattle.listings.specs.Parts.{bytes};
+ghost use Rattle.listings.specs.Listing.{tabbed, line, decimal, ifProduct, termLine, productLines, Listable};
+ghost use Rattle.listings.specs.inner.Lengths.{digitsOf};
+ghost use Rattle.text.specs.inner.Write.{Put, WriteListing};
 
 // The answer of `write_listing`: the listing's length, or that the buffer is shorter than the listing, which is refusal 10.
 pub enum Listed {
@@ -47,7 +48,7 @@ fn write_numbers(start: Writer, out: &mut [u8], numbers: &[usize]) -> Writer
     let mut place = start;
     let mut j: usize = 0;
     while j < numbers.len() {
-        place = place.byte(out, 9).number(out, numbers[j]);
+        place = place.byte(out, b'\t').number(out, numbers[j]);
         j += 1;
     }
     place
@@ -59,7 +60,7 @@ fn write_form(start: Writer, out: &mut [u8], numbers: &[usize]) -> Writer
     ensures { λ r. ⌜ Put (now (out .entry)) (start .at) (line (bytes "form") (map decimal (now (numbers .entry)))) (now (out .exit)) (r .at) ⌝ }
 {
     let fields = start.word(out, b"form");
-    write_numbers(fields, out, numbers).byte(out, 10)
+    write_numbers(fields, out, numbers).byte(out, b'\n')
 }
 
 // The line of the term t under the polarity w, where its coefficient c is not 0, and nothing where it is.
@@ -78,9 +79,9 @@ fn write_term(
     if c == 0 {
         return start;
     }
-    let cube = start.word(out, b"term").byte(out, 9);
-    let outputs = cube.cube(out, n, t, w).byte(out, 9);
-    outputs.outputs(out, m, c).byte(out, 10)
+    let cube = start.word(out, b"term").byte(out, b'\t');
+    let outputs = cube.cube(out, n, t, w).byte(out, b'\t');
+    outputs.outputs(out, m, c).byte(out, b'\n')
 }
 
 // The lines of the products, ascending by term.
@@ -114,7 +115,7 @@ fn write_end(start: Writer, out: &mut [u8]) -> Writer
     requires { ⌜ start .at + 4 ≤ length (now out) ⌝ }
     ensures { λ r. ⌜ Put (now (out .entry)) (start .at) (line (bytes "end") []) (now (out .exit)) (r .at) ⌝ }
 {
-    start.word(out, b"end").byte(out, 10)
+    start.word(out, b"end").byte(out, b'\n')
 }
 
 // Writes the listing of an expansion of n inputs, m outputs and k mixed inputs into the front of `out`, and gives its length. The record

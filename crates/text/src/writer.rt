@@ -4,8 +4,8 @@ ghost use mathlib.Core.List.{[], _∷_};
 ghost use Prim.Native.Nat.{_+_, _/_, _%_, _^_, _≤_, _<_};
 ghost use lib.ListN.{length};
 ghost use Rattle.numbers.specs.Bits.{bit};
-ghost use Rattle.text.specs.Listing.{digitCount, decimal, cubeByte, cube, outputBytes};
-ghost use Rattle.text.specs.Write.{Put};
+ghost use Rattle.listings.specs.Listing.{digitCount, decimal, cubeByte, cube, outputBytes};
+ghost use Rattle.text.specs.inner.Write.{Put};
 
 pub struct Writer {
     pub at: usize,
@@ -73,7 +73,7 @@ impl Writer {
         let at = self.at;
         let mut k = 0;
         while k < m {
-            out[at + k] = 48 + (c >> k) % 2;
+            out[at + k] = b'0' + (c >> k) % 2;
             k += 1;
         }
         Writer { at: at + k }
@@ -104,7 +104,7 @@ fn digit_byte(x: usize, i: usize) -> u8
     requires { ⌜ i < 4 ⌝ }
     ensures { λ r. ⌜ r ≡ 48 + x / 10 ^ i % 10 ⌝ }
 {
-    48 + (x / UNITS[i] % 10) as u8
+    b'0' + (x / UNITS[i] % 10) as u8
 }
 
 // The character of the input i in the cube of the term t under the polarity w.

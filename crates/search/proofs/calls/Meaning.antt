@@ -7,7 +7,6 @@ use native.Mathlib.Omega.{arith}
 use lib.ListN.{length}
 use lib.Pow.{pow-pos}
 use Rattle.numbers.specs.Bytes.{at, tabulate}
-use Rattle.numbers.specs.Refusals.{unlessRefused}
 use Rattle.numbers.proofs.Bytes.{tabulate-ext}
 use Rattle.numbers.proofs.refusals.Outputs.{below-at}
 use Rattle.numbers.proofs.refusals.Judging.{kept}

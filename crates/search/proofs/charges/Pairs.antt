@@ -11,7 +11,7 @@ use Rattle.numbers.specs.Sums.{foldBelow, sumBelow}
 use Rattle.numbers.proofs.Shifts.{one-shifted}
 use Rattle.expansions.specs.Answers.{leastPolarity, pairCharge}
 use Rattle.expansions.specs.Costs.{weight}
-use Rattle.search.specs.Search.{Limits, IsCheapest}
+use Rattle.search.specs.inner.Search.{Limits, IsCheapest}
 use Rattle.search.specs.declared.charges.Cheapest.{Cheapest}
 use Rattle.expansions.proofs.Costs.{sum-le}
 use Rattle.expansions.proofs.Minimal.{polarity-first}

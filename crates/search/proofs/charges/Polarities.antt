@@ -16,7 +16,7 @@ use Rattle.expansions.specs.Answers.{leastPolarity}
 use Rattle.expansions.specs.Charges.{byteCharge}
 use Rattle.expansions.specs.Costs.{weight}
 use Rattle.expansions.specs.Least.{firstLeast, Leading}
-use Rattle.search.specs.Search.{usedAt, usedCharge, IsCheapest}
+use Rattle.search.specs.inner.Search.{usedAt, usedCharge, IsCheapest}
 use Rattle.search.specs.declared.charges.Cheapest.{Cheapest}
 use Rattle.expansions.proofs.Least.{leading-take, leading-keep, leading-chosen}
 use Rattle.expansions.proofs.Minimal.{polarity-first, leastPolarity-ext}

@@ -17,7 +17,7 @@ use Rattle.numbers.proofs.Bytes.{at-tabulate, tabulate-ext}
 use Rattle.expansions.specs.BlockTable.{entry}
 use Rattle.expansions.specs.Charges.{byteCharge}
 use Rattle.expansions.specs.Costs.{weight}
-use Rattle.search.specs.Search.{usedAt, usedCharge}
+use Rattle.search.specs.inner.Search.{usedAt, usedCharge}
 use Rattle.expansions.proofs.BlockTable.{entries-lt}
 use Rattle.expansions.proofs.Charges.{byteCharge-le, byteCharge-terms}
 

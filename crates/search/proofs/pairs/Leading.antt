@@ -1,8 +1,8 @@
 -- The leader of the pairs tried so far: one more pair that is no pair, that costs less, or that does not; and a run of numbers that are
 -- no pairs.
-use mathlib.Core.Path.{_≡_, refl, sym, ap, ap₂, _∙_, subst}
+use mathlib.Core.Path.{_≡_, refl, sym, ap₂, _∙_}
 use mathlib.Core.Bool.{Bool, true, false, _&&_}
-use Prim.Native.Nat.{ℕ, zero, suc, _+_, _*_, _/_, _%_, _^_, _≤_, _<_}
+use Prim.Native.Nat.{ℕ, zero, suc, _+_, _*_, _%_, _^_, _≤_, _<_}
 use native.Mathlib.Nat.{add-zero, add-suc, suc-mul, lt-of-lt-of-le, mul-le-mul}
 use native.Mathlib.Omega.{arith}
 use borrow.Author.Tests.{eq-eqb, ne-eqb}
@@ -13,7 +13,7 @@ use lib.Pow.{high, low, shl-exact, pow-mono}
 use lib.Arith.{digits-lt}
 use Rattle.expansions.specs.Least.{firstLeast}
 use Rattle.expansions.specs.Answers.{validPair, pairCharge, blockCharge}
-use Rattle.search.specs.Search.{Leads, pairValid, pairCost}
+use Rattle.search.specs.inner.Search.{Leads, pairValid, pairCost}
 use Rattle.search.specs.declared.pairs.Leader.{Leader}
 use Rattle.expansions.proofs.Least.{leading-skip, leading-take, leading-keep}
 use Rattle.expansions.proofs.Masks.{valid-mask}

@@ -18,7 +18,7 @@ use Rattle.algebra.proofs.Coefficients.{coefficient-ext}
 use Rattle.expansions.specs.Split.{gather, outside, join}
 use Rattle.expansions.specs.BlockTable.{plane}
 use Rattle.expansions.specs.Answers.{blockFunction}
-use Rattle.search.specs.Search.{Limits, Tried, HoldsBlocks}
+use Rattle.search.specs.inner.Search.{Limits, Tried, HoldsBlocks}
 use Rattle.expansions.proofs.Split.{ones-others, gather-lt}
 use Rattle.expansions.proofs.BlockTable.{plane-coefficient}
 use Rattle.search.proofs.planes.Filling.{planes-plane}

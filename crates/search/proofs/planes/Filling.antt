@@ -1,6 +1,6 @@
 -- The bytes of places and of planes, as code computes them one by one (`place-read`, `plane-read`), and the planes that they come to
 -- (`planes-laid`): each plane byte is that of one output of one block's function (`planes-plane`).
-use mathlib.Core.Path.{_≡_, refl, ap, ap₂, _∙_}
+use mathlib.Core.Path.{_≡_, ap, ap₂, _∙_}
 use mathlib.Core.List.{List}
 use Prim.Native.Nat.{ℕ, _+_, _-_, _*_, _/_, _%_, _^_, _≤_, _<_}
 use native.Mathlib.Nat.{div-lt-iff-lt-mul, mod-lt, mul-le-mul-right}
@@ -15,7 +15,7 @@ use Rattle.numbers.proofs.Bytes.{length-tabulate, at-tabulate}
 use Rattle.numbers.proofs.Shifts.{one-shifted}
 use Rattle.expansions.specs.Split.{join}
 use Rattle.expansions.specs.BlockTable.{plane}
-use Rattle.search.specs.Search.{placeByte, planeByte, planesOf}
+use Rattle.search.specs.inner.Search.{placeByte, planeByte, planesOf}
 use Rattle.expansions.proofs.Split.{join-lt}
 use Rattle.numbers.proofs.Pack.{pack-ext}
 

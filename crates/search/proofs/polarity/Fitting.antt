@@ -1,5 +1,5 @@
 -- The polarity of a term that `term_polarity` gives is that of the class, where the masks are of n inputs.
-use mathlib.Core.Path.{_≡_, refl}
+use mathlib.Core.Path.{_≡_}
 use mathlib.Core.List.{List}
 use Prim.Native.Nat.{ℕ, _^_, _≤_, _<_}
 use borrow.Author.Tests.{le-leb, lt-ltb}

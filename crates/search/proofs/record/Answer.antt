@@ -7,7 +7,7 @@ use lib.Bits.{bitAnd}
 use Rattle.numbers.specs.Bytes.{at, tabulate}
 use Rattle.expansions.specs.Answers.{answerMixed, answerFixed, answerCoefficient}
 use Rattle.search.specs.Expansion.{answerExpansion}
-use Rattle.search.specs.Search.{Limits, HoldsBlocks, Leads, polarityAt, coefficientAt}
+use Rattle.search.specs.inner.Search.{Limits, HoldsBlocks, Leads, polarityAt, coefficientAt}
 use Rattle.search.specs.declared.expansion.Expansion.{Expansion}
 use Rattle.search.specs.declared.pairs.Leader.{Leader}
 use Rattle.search.proofs.record.Places.{polarities-answer, chosen-lt, coefficients-answer}

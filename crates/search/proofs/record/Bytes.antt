@@ -7,7 +7,7 @@ use Rattle.numbers.specs.Bytes.{at}
 use Rattle.numbers.specs.Bits.{bit, pack}
 use Rattle.expansions.specs.Members.{block, place}
 use Rattle.expansions.specs.BlockTable.{entry, blockTable}
-use Rattle.search.specs.Search.{coefficientAt}
+use Rattle.search.specs.inner.Search.{coefficientAt}
 use Rattle.numbers.proofs.Bits.{bit-lt}
 use Rattle.expansions.proofs.BlockTable.{blockTable-entry}
 use Rattle.expansions.proofs.Answers.{only-below}

@@ -8,7 +8,7 @@ use Rattle.numbers.proofs.Shifts.{one-shifted}
 use Rattle.expansions.specs.Members.{Member}
 use Rattle.expansions.specs.Costs.{products, literals, charge}
 use Rattle.expansions.specs.Answers.{leastPair, answerPair, answerMixed, answerFixed, answerPolarity, answerCoefficient}
-use Rattle.search.specs.Search.{pairValid, pairCost, Leads}
+use Rattle.search.specs.inner.Search.{pairValid, pairCost, Leads}
 use Rattle.search.specs.declared.pairs.Leader.{Leader}
 use Rattle.expansions.proofs.Least.{leading-chosen}
 use Rattle.expansions.proofs.Costs.{charge-products, charge-literals}

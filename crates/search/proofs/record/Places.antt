@@ -13,13 +13,13 @@ use Rattle.numbers.proofs.Bytes.{tabulate-ext}
 use Rattle.expansions.specs.Members.{block, place, Member}
 use Rattle.expansions.specs.BlockTable.{entry}
 use Rattle.expansions.specs.Answers.{blockFunction, memberCoefficient, answerMixed, answerFixed, answerPolarity, answerCoefficient}
-use Rattle.search.specs.Search.{Limits, HoldsBlocks, polarityAt, coefficientAt}
+use Rattle.search.specs.inner.Search.{Limits, HoldsBlocks, polarityAt, coefficientAt}
 use Rattle.numbers.proofs.Tables.{at-whole}
 use Rattle.numbers.proofs.Pack.{pack-ext}
 use Rattle.expansions.proofs.Blocks.{block-lt, place-lt, blockFunction-lt}
 use Rattle.expansions.proofs.BlockTable.{entry-outputs}
 use Rattle.expansions.proofs.Answers.{only-ext, answer-member, answer-polarity-lt, answer-polarity-zero}
-use Rattle.search.proofs.HeldBlocks.{held-polarity}
+use Rattle.search.proofs.planes.HeldBlocks.{held-polarity}
 
 module _ (n m k : ℕ) (f : ℕ → ℕ) (functions : List ℕ) (sizes : Limits n m k) (outputs : (p : ℕ) → p < 2 ^ n → f p < 2 ^ m)
     (held : HoldsBlocks n m k (answerMixed n k f) (answerFixed n k f) f functions) where

@@ -1,8 +1,8 @@
 -- When the search is carried out: the test `searchable` says that the sizes are document 01's and the bytes a table of them.
-use mathlib.Core.Path.{_≡_, refl, sym, ap, _∙_}
+use mathlib.Core.Path.{_≡_, refl}
 use mathlib.Core.Bool.{Bool, true, false, _&&_}
 use mathlib.Core.List.{List}
-use Prim.Native.Nat.{ℕ, _^_, _≤_, _<_}
+use Prim.Native.Nat.{ℕ, _^_}
 use native.Mathlib.Omega.{arith}
 use borrow.Author.Tests.{eq-eqb, eqb-true}
 use lib.Dec.{T, eqb}
@@ -11,7 +11,7 @@ use lib.Pow.{pow-pos}
 use Rattle.numbers.specs.Bytes.{at, allBelow}
 use Rattle.numbers.proofs.refusals.Outputs.{below-at}
 use Rattle.search.specs.Expansion.{answerExpansion, searchable, searched}
-use Rattle.search.specs.Search.{Limits, Given}
+use Rattle.search.specs.inner.Search.{Limits, Given}
 use Rattle.numbers.specs.Refusals.{sizesRefusal, Sized}
 use Rattle.numbers.proofs.refusals.Judging.{sizes-none, sizes-accepted}
 

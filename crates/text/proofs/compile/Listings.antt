@@ -12,18 +12,19 @@ use lib.Seq.{take-append-seam}
 use Rattle.numbers.specs.Bytes.{at}
 use Rattle.search.specs.Expansion.{answerExpansion}
 use Rattle.search.proofs.expansion.Answer.{answerExpansion-is, expansion-coefficients-lt}
-use Rattle.text.specs.declared.read.Sizes.{Sizes}
+use Rattle.text.specs.declared.sizes.Sizes.{Sizes}
 use Rattle.text.specs.declared.read.ReadAnswer.{ReadAnswer}
 use Rattle.text.specs.declared.read.ReadAnswer.the-variants as answer
 use Rattle.text.specs.declared.compile.Compiled.{Compiled}
 use Rattle.text.specs.declared.compile.Compiled.the-variants.{Written, Refused}
 use Rattle.text.specs.Accepted.{Accepted}
 use Rattle.text.specs.Read.{Reading, given, refused, reading, standsFor}
-use Rattle.text.specs.Compile.{answerListing, compiled, bufferAfter, IsListing, Compile, CompileWhole}
-use Rattle.text.proofs.Accepted.{reading-accepted}
-use Rattle.text.proofs.Meaning.{listing-products, listing-literals}
-use Rattle.text.proofs.ListedAnswers.{answer-given, answer-products, answer-literals}
-use Rattle.text.proofs.Longest.{listing-longest}
+use Rattle.text.specs.Compile.{answerListing, compiled, bufferAfter, Compile, CompileWhole}
+use Rattle.listings.specs.Meaning.{IsListing}
+use Rattle.text.proofs.read.Accepted.{reading-accepted}
+use Rattle.listings.proofs.Meaning.{listing-products, listing-literals}
+use Rattle.listings.proofs.ListedAnswers.{answer-given, answer-products, answer-literals}
+use Rattle.listings.proofs.Longest.{listing-longest}
 
 -- ---- the listing of the answer
 

@@ -5,7 +5,7 @@ use Prim.Native.Nat.{ℕ, _-_, _≤_}
 use Rattle.numbers.specs.Bytes.{at, tabulate}
 use lib.ListN.{length}
 use Rattle.numbers.proofs.Bytes.{length-tabulate}
-use Rattle.search.specs.Search.{usedAt}
+use Rattle.search.specs.inner.Search.{usedAt}
 use Rattle.search.proofs.charges.Used.{function-at, function-within, used-none, used-next}
 use native.Mathlib.Omega.{arith}
 use Rattle.search.proofs.charges.used_terms.Statement.{statement}

@@ -1,14 +1,14 @@
 -- `first_least` meets its contract: the leader leads the pairs whose M is below `mixed`.
 use borrow.Author.Needs.{needs}
-use mathlib.Core.Path.{_≡_, refl, sym, ap, _∙_}
-use Prim.Native.Nat.{ℕ, _-_, _*_, _^_, suc, _≤_, _<_}
+use mathlib.Core.Path.{_≡_, _∙_}
+use Prim.Native.Nat.{_-_, _*_, _^_, _≤_}
 use native.Mathlib.Nat.{zero-mul}
 use native.Mathlib.Numerals.{add-one}
 use lib.ListN.{length}
 use lib.Pow.{pow-mono}
 use Rattle.numbers.specs.Bytes.{at}
 use Rattle.numbers.proofs.Shifts.{one-shifted}
-use Rattle.search.specs.Search.{Room, Leads}
+use Rattle.search.specs.inner.Search.{Room, Leads}
 use Rattle.search.proofs.pairs.Leading.{leads-none}
 use native.Mathlib.Omega.{arith}
 use Rattle.search.proofs.pairs.first_least.Statement.{statement}

@@ -1,6 +1,6 @@
 -- `try_any` meets its contract: `mixed` has another number of inputs, or every i is tried with it.
 use borrow.Author.Needs.{needs}
-use mathlib.Core.Path.{_≡_, sym, _∙_}
+use mathlib.Core.Path.{sym, _∙_}
 use Rattle.search.proofs.pairs.Leading.{leads-other}
 use Rattle.search.proofs.pairs.try_any.Statement.{statement}
 use Rattle.search.proofs.pairs.try_any.Tie as tie

@@ -1,11 +1,10 @@
 -- `try_fixed` meets its contract: the pair is no pair, it costs less than the leader, or it does not.
 use borrow.Author.Needs.{needs}
-use mathlib.Core.Path.{_≡_, sym, ap, _∙_, subst}
-use Prim.Native.Nat.{ℕ, _+_, _*_, _^_, suc, _<_}
+use mathlib.Core.Path.{_≡_, _∙_}
+use Prim.Native.Nat.{_<_}
 use Rattle.numbers.specs.Bytes.{at}
 use Rattle.expansions.specs.Answers.{pairCharge, blockCharge}
-use Rattle.search.specs.Search.{Leads}
-use Rattle.search.proofs.HeldBlocks.{held-pair, pairCharge-lt}
+use Rattle.search.proofs.planes.HeldBlocks.{held-pair, pairCharge-lt}
 use Rattle.search.proofs.pairs.Leading.{leads-skip, leads-take, leads-keep, pair-shifted, pair-lt}
 use native.Mathlib.Omega.{arith}
 use Rattle.search.proofs.pairs.try_fixed.Statement.{statement}

@@ -1,14 +1,14 @@
 -- `try_mixed` meets its contract: the leader leads the pairs below `mixed` and `fixed`.
 use borrow.Author.Needs.{needs}
-use mathlib.Core.Path.{_≡_, refl, sym, ap, _∙_, subst}
-use Prim.Native.Nat.{ℕ, _+_, _-_, _*_, _^_, suc, _≤_, _<_}
+use mathlib.Core.Path.{_≡_, refl, _∙_}
+use Prim.Native.Nat.{_+_, _-_, _*_, _^_, suc, _≤_}
 use native.Mathlib.Nat.{add-zero, suc-mul}
 use native.Mathlib.Numerals.{add-one}
 use lib.ListN.{length}
 use lib.Pow.{pow-mono}
 use Rattle.numbers.specs.Bytes.{at}
 use Rattle.numbers.proofs.Shifts.{one-shifted}
-use Rattle.search.specs.Search.{Leads}
+use Rattle.search.specs.inner.Search.{Leads}
 use native.Mathlib.Omega.{arith}
 use Rattle.search.proofs.pairs.try_mixed.Statement.{statement}
 use Rattle.search.proofs.pairs.try_mixed.Tie as tie

@@ -6,7 +6,7 @@ use lib.Pow.{pow-pos}
 use Rattle.numbers.specs.Bytes.{at}
 use Rattle.numbers.proofs.Bytes.{Filled, filled-none, filled-more, filled-all}
 use Rattle.numbers.proofs.Shifts.{one-shifted}
-use Rattle.search.specs.Search.{placeByte}
+use Rattle.search.specs.inner.Search.{placeByte}
 use Rattle.search.proofs.planes.Filling.{place-read, place-room}
 use native.Mathlib.Omega.{arith}
 use Rattle.search.proofs.planes.fill_places.Statement.{statement}

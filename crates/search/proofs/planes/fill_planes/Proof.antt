@@ -4,7 +4,7 @@ use Prim.Native.Nat.{_-_}
 use lib.ListN.{length}
 use Rattle.numbers.specs.Bytes.{at}
 use Rattle.numbers.proofs.Bytes.{Filled, filled-none, filled-more, filled-all}
-use Rattle.search.specs.Search.{planeByte}
+use Rattle.search.specs.inner.Search.{planeByte}
 use Rattle.search.proofs.planes.Filling.{block-mask, block-room, output-room, plane-read}
 use native.Mathlib.Omega.{arith}
 use Rattle.search.proofs.planes.fill_planes.Statement.{statement}

@@ -6,7 +6,7 @@ use lib.Pow.{pow-mono}
 use Rattle.numbers.proofs.Shifts.{one-shifted}
 use Rattle.expansions.specs.Split.{gather, outside}
 use Rattle.expansions.specs.Members.{block}
-use Rattle.search.specs.Search.{coefficientAt}
+use Rattle.search.specs.inner.Search.{coefficientAt}
 use Rattle.expansions.proofs.Split.{ones-others, gather-lt}
 use Rattle.expansions.proofs.Answers.{only-above}
 use Rattle.search.proofs.record.Bytes.{coefficientAt-byte}

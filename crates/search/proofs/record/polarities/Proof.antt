@@ -2,7 +2,7 @@
 use borrow.Author.Needs.{needs}
 use Prim.Native.Nat.{_-_}
 use Rattle.numbers.specs.Bytes.{at}
-use Rattle.search.specs.Search.{polarityAt}
+use Rattle.search.specs.inner.Search.{polarityAt}
 use Rattle.numbers.proofs.Bytes.{Filled, filled-none, filled-more, filled-all}
 use native.Mathlib.Omega.{arith}
 use Rattle.search.proofs.record.polarities.Statement.{statement}

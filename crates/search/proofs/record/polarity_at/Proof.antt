@@ -3,7 +3,7 @@ use borrow.Author.Needs.{needs}
 use mathlib.Core.Path.{_≡_, sym, _∙_}
 use Prim.Native.Nat.{_-_, _*_, _%_, _^_, _≤_, _<_}
 use Rattle.numbers.proofs.Shifts.{one-shifted}
-use Rattle.search.specs.Search.{polarityAt}
+use Rattle.search.specs.inner.Search.{polarityAt}
 use Rattle.expansions.proofs.Answers.{only-below, only-above}
 use native.Mathlib.Omega.{arith}
 use Rattle.search.proofs.record.polarity_at.Statement.{statement}

@@ -1,6 +1,6 @@
 -- `search` meets its contract.
 use borrow.Author.Needs.{needs}
-use mathlib.Core.Path.{_≡_, sym, _∙_}
+use mathlib.Core.Path.{sym, _∙_}
 use Rattle.search.specs.Expansion.{searched}
 use Rattle.search.proofs.search.Searchable.{allowed-sizes, allowed-table}
 use Rattle.search.proofs.search.search.Statement.{statement}

@@ -2,7 +2,7 @@
 use borrow.Author.Needs.{needs}
 use mathlib.Core.Path.{_≡_, refl}
 use Rattle.text.specs.Read.{reading, standsFor}
-use Rattle.text.proofs.Accepted.{reading-accepted, read-whole}
+use Rattle.text.proofs.read.Accepted.{reading-accepted, read-whole}
 use Rattle.text.proofs.compile.Listings.{reads-given, compile-given, compile-refused}
 use Rattle.text.proofs.compile.compile.Statement.{statement}
 use Rattle.text.proofs.compile.compile.Tie as tie

@@ -1,10 +1,11 @@
 -- `compile_table` meets its contract: the answer of the table is searched and written.
 use borrow.Author.Needs.{needs}
-use mathlib.Core.Path.{_≡_, sym, ap, subst, _∙_}
+use mathlib.Core.Path.{sym, ap, subst, _∙_}
 use lib.Seq.{length-take-le}
 use Rattle.search.specs.declared.expansion.Expansion.{Expansion}
-use Rattle.text.specs.Write.{Listable, WriteListing}
-use Rattle.text.proofs.compile.Tables.{part-size, part-within, searched-table, table-listable, said, compiled-answer, compiled-bytes}
+use Rattle.listings.specs.Listing.{Listable}
+use Rattle.text.specs.inner.Write.{WriteListing}
+use Rattle.text.proofs.compile.Tables.{part-within, searched-table, table-listable, said, compiled-answer, compiled-bytes}
 use Rattle.text.proofs.compile.compile_table.Statement.{statement}
 use Rattle.text.proofs.compile.compile_table.Tie as tie
 

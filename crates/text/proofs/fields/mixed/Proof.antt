@@ -1,7 +1,8 @@
 -- `mixed` meets its contract, by those of `same` and `one_digit`.
 use mathlib.Core.Path.{_∙_}
 use borrow.Author.Needs.{needs}
-use Rattle.text.specs.Fields.{mixed, bytes}
+use Rattle.text.specs.Fields.{mixed}
+use Rattle.listings.specs.Parts.{bytes}
 use Rattle.text.proofs.fields.mixed.Statement.{statement}
 use Rattle.text.proofs.fields.mixed.Tie as tie
 

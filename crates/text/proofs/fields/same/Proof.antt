@@ -5,8 +5,8 @@ use native.Mathlib.Omega.{arith}
 use borrow.Author.Needs.{needs}
 use borrow.Author.Tests.{eq-eqb, ne-eqb}
 use lib.ListN.{length, drop}
-use Rattle.text.specs.Fields.{same}
-use Rattle.text.proofs.Words.{same-lengths, same-step, same-end}
+use Rattle.listings.specs.Parts.{same}
+use Rattle.listings.proofs.Words.{same-lengths, same-step, same-end}
 use Rattle.text.proofs.fields.same.Statement.{statement}
 use Rattle.text.proofs.fields.same.Tie as tie
 

@@ -5,9 +5,8 @@ use Prim.Native.Nat.{ℕ, _+_, _≤_}
 use native.Mathlib.Omega.{arith}
 use borrow.Author.Needs.{needs}
 use lib.ListN.{length, getD, drop}
-use Rattle.text.specs.Cursor.{all, parts, stop}
-use Rattle.text.specs.Lines.{fields, field}
-use Rattle.text.proofs.Parts.{stop-le, first-slice, others-last, others-next, part-later, part-none}
+use Rattle.listings.specs.Parts.{all, parts, stop, fields, field}
+use Rattle.listings.proofs.Parts.{stop-le, first-slice, others-last, others-next, part-later, part-none}
 use Rattle.text.proofs.lines.field.Statement.{statement}
 use Rattle.text.proofs.lines.field.Tie as tie
 

@@ -4,9 +4,8 @@ use Prim.Native.Nat.{_+_, _≤_, _-_}
 use native.Mathlib.Omega.{arith}
 use borrow.Author.Needs.{needs}
 use lib.ListN.{length, drop}
-use Rattle.text.specs.Cursor.{parts, stop}
-use Rattle.text.specs.Lines.{fields}
-use Rattle.text.proofs.Parts.{stop-le, others-last, others-next}
+use Rattle.listings.specs.Parts.{parts, stop, fields}
+use Rattle.listings.proofs.Parts.{stop-le, others-last, others-next}
 use Rattle.text.proofs.lines.field_count.Statement.{statement}
 use Rattle.text.proofs.lines.field_count.Tie as tie
 

@@ -2,7 +2,7 @@
 use mathlib.Core.Path.{_∙_}
 use borrow.Author.Needs.{needs}
 use borrow.Author.Tests.{not-true, not-false}
-use Rattle.text.specs.Fields.{bytes}
+use Rattle.listings.specs.Parts.{bytes}
 use Rattle.text.specs.Lines.{firstLine}
 use Rattle.text.proofs.lines.first_line.Statement.{statement}
 use Rattle.text.proofs.lines.first_line.Tie as tie

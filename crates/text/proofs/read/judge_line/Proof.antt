@@ -8,12 +8,12 @@ use borrow.Author.Needs.{needs}
 use borrow.Author.Tests.{ltb-true}
 use lib.Dec.{ltb, leb}
 use lib.ListN.{length}
-use Rattle.text.specs.Steps.{linesAt}
-use Rattle.text.proofs.Accepted.{row-lt}
-use Rattle.text.proofs.Parts.{stop-le}
-use Rattle.text.proofs.Powers.{points-le}
-use Rattle.text.proofs.Steps.{lines-unfinished, lines-wrong, lines-done, lines-follow, lines-point, lines-next}
-use Rattle.text.proofs.Tests.{and-left}
+use Rattle.text.specs.inner.Steps.{linesAt}
+use Rattle.text.proofs.read.Accepted.{row-lt}
+use Rattle.listings.proofs.Parts.{stop-le}
+use Rattle.numbers.proofs.Shifts.{points-le}
+use Rattle.text.proofs.read.Steps.{lines-unfinished, lines-wrong, lines-done, lines-follow, lines-point, lines-next}
+use Rattle.numbers.proofs.Tests.{both-left}
 use Rattle.text.proofs.read.judge_line.Statement.{statement}
 use Rattle.text.proofs.read.judge_line.Tie as tie
 
@@ -61,8 +61,8 @@ later-line-requires c κs = search needs
 enum-known-point : tie.Need-enum-known-point
 enum-known-point c = search needs
 
-place-requires : tie.Need-place-requires
-place-requires c κs =
+put-outputs-requires : tie.Need-put-outputs-requires
+put-outputs-requires c κs =
     let l = c .before .before .before .before in
     let start = l .before .before .before .before .before in
     let says = sym (l .later-line .ensures) ∙ c .before .before .point .given .1 in
@@ -79,8 +79,8 @@ add-t27 c =
     let l = c .before .before .before .before .before .before .before in
     let start = l .before .before .before .before .before in
     let p = c .before .before .before .before .before .point .given .0 .0 in
-    let test : (ltb p (2 ^ start .args .sizes .n) && leb (start .args .least) p) ≡ true = sym (c .before .before .place .ensures .0) ∙ c .before .if2 .taken in
-    omega (arith, ltb-true p (2 ^ start .args .sizes .n) (and-left _ _ test), points-le (start .args .sizes .n) (start .pre .1))
+    let test : (ltb p (2 ^ start .args .sizes .n) && leb (start .args .least) p) ≡ true = sym (c .before .before .put-outputs .ensures .0) ∙ c .before .if2 .taken in
+    omega (arith, ltb-true p (2 ^ start .args .sizes .n) (both-left _ _ test), points-le (start .args .sizes .n) (start .pre .1))
 
 returns-2 : tie.Need-returns-2
 returns-2 c =
@@ -88,8 +88,8 @@ returns-2 c =
     let a = l .before .before .before .before .before .args in
     let p = c .before .before .before .before .before .point .given .0 .0 in
     let says = sym (l .later-line .ensures) ∙ c .before .before .before .before .before .point .given .1 in
-    let test : (ltb p (2 ^ a .sizes .n) && leb (a .least) p) ≡ true = sym (c .before .before .place .ensures .0) ∙ c .before .if2 .taken in
-    let stored = rw (c .before .if2 .taken) at (c .before .before .place .ensures .1) in
+    let test : (ltb p (2 ^ a .sizes .n) && leb (a .least) p) ≡ true = sym (c .before .before .put-outputs .ensures .0) ∙ c .before .if2 .taken in
+    let stored = rw (c .before .if2 .taken) at (c .before .before .put-outputs .ensures .1) in
     let line : c .next-line .result .line ≡ a .cursor .line + 1 = omega arith in
     record {
       meaning =
@@ -122,7 +122,7 @@ returns-4 : tie.Need-returns-4
 returns-4 c =
     let l = c .before .before .before .before .before .before in
     let says = sym (l .later-line .ensures) ∙ c .before .before .before .before .point .given .1 in
-    let test = sym (c .before .place .ensures .0) ∙ c .if2 .left in
+    let test = sym (c .before .put-outputs .ensures .0) ∙ c .if2 .left in
     record { meaning = sym (lines-point _ _ _ _ _ _ (l .before .before .before .seek .ensures .0) _ _ (before-end (l .before .before)) says test); forward = tt }
 
 returns-5 : tie.Need-returns-5
@@ -152,7 +152,7 @@ judge-line-spec =
     part-later-line-end
     later-line-requires
     enum-known-point
-    place-requires
+    put-outputs-requires
     next-line-requires
     add-t27
     returns-2

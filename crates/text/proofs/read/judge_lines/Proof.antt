@@ -6,7 +6,7 @@ use native.Mathlib.Omega.{arith}
 use borrow.Author.Needs.{needs}
 use lib.ListN.{length}
 use Rattle.text.specs.Read.{standsFor}
-use Rattle.text.specs.Steps.{Within, linesAt}
+use Rattle.text.specs.inner.Steps.{Within, linesAt}
 use Rattle.text.proofs.read.judge_lines.Statement.{statement}
 use Rattle.text.proofs.read.judge_lines.Tie as tie
 

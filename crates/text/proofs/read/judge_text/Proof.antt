@@ -5,11 +5,11 @@ use native.Mathlib.Omega.{arith}
 use borrow.Author.Needs.{needs}
 use lib.ListN.{length}
 use lib.Seq.{length-take-le}
-use Rattle.text.specs.Cursor.{stop}
+use Rattle.listings.specs.Parts.{stop}
 use Rattle.text.specs.Read.{standsFor}
-use Rattle.text.proofs.Accepted.{first-sized}
-use Rattle.text.proofs.Parts.{stop-le}
-use Rattle.text.proofs.Steps.{text-unfinished, text-judged}
+use Rattle.text.proofs.read.Accepted.{first-sized}
+use Rattle.listings.proofs.Parts.{stop-le}
+use Rattle.text.proofs.read.Steps.{text-unfinished, text-judged}
 use Rattle.text.proofs.read.judge_text.Statement.{statement}
 use Rattle.text.proofs.read.judge_text.Tie as tie
 

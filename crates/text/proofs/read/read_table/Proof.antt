@@ -4,7 +4,7 @@ use borrow.Author.Needs.{needs}
 use borrow.Author.Tests.{eq-eqb, ne-eqb}
 use lib.ListN.{length}
 use Rattle.text.specs.Read.{given, reading, standsFor, lent, tableAfter}
-use Rattle.text.proofs.Accepted.{reading-accepted}
+use Rattle.text.proofs.read.Accepted.{reading-accepted}
 use Rattle.text.proofs.read.read_table.Statement.{statement}
 use Rattle.text.proofs.read.read_table.Tie as tie
 

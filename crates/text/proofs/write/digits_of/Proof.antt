@@ -4,9 +4,9 @@ use mathlib.Core.Path.{_≡_, refl, _∙_, sym}
 use Prim.Native.Nat.{_-_, _≤_, _*_}
 use lib.ListN.{length, getD, take}
 use lib.Seq.{take-all}
-use Rattle.text.specs.Listing.{digitsOf}
-use Rattle.text.proofs.Lengths.{digitsOf-next}
-use Rattle.text.proofs.Characters.{digitCount-in}
+use Rattle.listings.specs.inner.Lengths.{digitsOf}
+use Rattle.listings.proofs.Lengths.{digitsOf-next}
+use Rattle.listings.proofs.Characters.{digitCount-in}
 use native.Mathlib.Omega.{arith}
 use Rattle.text.proofs.write.digits_of.Statement.{statement}
 use Rattle.text.proofs.write.digits_of.Tie as tie

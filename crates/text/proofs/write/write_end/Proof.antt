@@ -1,8 +1,8 @@
 -- `write_end` meets its contract: the word and the line's end, one after the other.
 use borrow.Author.Needs.{needs}
-use Rattle.text.specs.Fields.{bytes}
-use Rattle.text.specs.Listing.{tabbed, line}
-use Rattle.text.proofs.Puts.{put-then}
+use Rattle.listings.specs.Parts.{bytes}
+use Rattle.listings.specs.Listing.{tabbed, line}
+use Rattle.text.proofs.writer.Puts.{put-then}
 use Rattle.text.proofs.write.write_end.Statement.{statement}
 use Rattle.text.proofs.write.write_end.Tie as tie
 

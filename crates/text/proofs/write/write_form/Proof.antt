@@ -1,9 +1,9 @@
 -- `write_form` meets its contract: the word, the numbers and the line's end, one after the other.
 use borrow.Author.Needs.{needs}
-use Rattle.text.specs.Fields.{bytes}
-use Rattle.text.specs.Listing.{line}
-use Rattle.text.proofs.Puts.{put-then, put-length}
-use Rattle.text.proofs.Lengths.{length-numbers}
+use Rattle.listings.specs.Parts.{bytes}
+use Rattle.listings.specs.Listing.{line}
+use Rattle.text.proofs.writer.Puts.{put-then, put-length}
+use Rattle.listings.proofs.Lengths.{length-numbers}
 use native.Mathlib.Omega.{arith}
 use Rattle.text.proofs.write.write_form.Statement.{statement}
 use Rattle.text.proofs.write.write_form.Tie as tie

@@ -2,11 +2,12 @@
 use borrow.Author.Needs.{needs}
 use Prim.Native.Nat.{_+_, _*_, _≤_}
 use lib.ListN.{length}
-use Rattle.text.specs.Listing.{formLine, listing, digitsOf}
-use Rattle.text.specs.Write.{Put}
-use Rattle.text.proofs.Puts.{put-then, put-length}
-use Rattle.text.proofs.Lengths.{digitsOf-le, length-formLine}
-use Rattle.text.proofs.Listings.{numbersOf, length-products, length-stated, products-small, listing-written, listing-short}
+use Rattle.listings.specs.Listing.{formLine, listing}
+use Rattle.listings.specs.inner.Lengths.{digitsOf}
+use Rattle.text.specs.inner.Write.{Put}
+use Rattle.text.proofs.writer.Puts.{put-then, put-length}
+use Rattle.listings.proofs.Lengths.{digitsOf-le, length-formLine, numbersOf, length-products, length-stated, products-small}
+use Rattle.text.proofs.write.Listings.{listing-written, listing-short}
 use native.Mathlib.Omega.{arith}
 use Rattle.text.proofs.write.write_listing.Statement.{statement}
 use Rattle.text.proofs.write.write_listing.Tie as tie

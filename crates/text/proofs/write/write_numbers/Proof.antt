@@ -5,10 +5,10 @@ use mathlib.Core.Path.{_≡_}
 use Prim.Native.Nat.{_-_, _≤_}
 use lib.ListN.{length, take}
 use lib.Seq.{take-all}
-use Rattle.text.specs.Listing.{tabbed, decimal}
-use Rattle.text.specs.Write.{Put}
-use Rattle.text.proofs.Puts.{put-none, put-then, put-length}
-use Rattle.text.proofs.Lengths.{numbers-next, numbers-room}
+use Rattle.listings.specs.Listing.{tabbed, decimal}
+use Rattle.text.specs.inner.Write.{Put}
+use Rattle.text.proofs.writer.Puts.{put-none, put-then, put-length}
+use Rattle.listings.proofs.Lengths.{numbers-next, numbers-room}
 use native.Mathlib.Omega.{arith}
 use Rattle.text.proofs.write.write_numbers.Statement.{statement}
 use Rattle.text.proofs.write.write_numbers.Tie as tie

@@ -3,11 +3,11 @@ use borrow.Author.Needs.{needs}
 use mathlib.Core.Path.{ap}
 use Prim.Native.Nat.{_+_, _≤_}
 use lib.ListN.{length}
-use Rattle.text.specs.Fields.{bytes}
-use Rattle.text.specs.Listing.{termLine}
-use Rattle.text.proofs.Puts.{put-none, put-then, put-length}
-use Rattle.text.proofs.Characters.{length-cube, length-outputs}
-use Rattle.text.proofs.Lengths.{ifProduct-none, ifProduct-some, length-termLine, termLine-fields}
+use Rattle.listings.specs.Parts.{bytes}
+use Rattle.listings.specs.Listing.{termLine}
+use Rattle.text.proofs.writer.Puts.{put-none, put-then, put-length}
+use Rattle.listings.proofs.Characters.{length-cube, length-outputs}
+use Rattle.listings.proofs.Lengths.{ifProduct-none, ifProduct-some, length-termLine, termLine-fields}
 use native.Mathlib.Omega.{arith}
 use Rattle.text.proofs.write.write_term.Statement.{statement}
 use Rattle.text.proofs.write.write_term.Tie as tie

@@ -7,11 +7,11 @@ use Rattle.numbers.specs.Bytes.{at}
 use Rattle.expansions.specs.Members.{polarity}
 use Rattle.search.specs.Expansion.{termPolarity}
 use Rattle.search.proofs.polarity.Fitting.{termPolarity-fits}
-use Rattle.text.specs.Listing.{termLines}
-use Rattle.text.specs.Write.{Put}
-use Rattle.text.proofs.Puts.{put-none, put-then, put-length}
-use Rattle.text.proofs.Lengths.{termLines-le}
-use Rattle.text.proofs.Powers.{shift-one, points-le}
+use Rattle.listings.specs.Listing.{termLines}
+use Rattle.text.specs.inner.Write.{Put}
+use Rattle.text.proofs.writer.Puts.{put-none, put-then, put-length}
+use Rattle.listings.proofs.Lengths.{termLines-le}
+use Rattle.numbers.proofs.Shifts.{one-shifted, points-le}
 use native.Mathlib.Omega.{arith}
 use Rattle.text.proofs.write.write_terms.Statement.{statement}
 use Rattle.text.proofs.write.write_terms.Tie as tie
@@ -40,7 +40,7 @@ term-polarity-requires c κs = search needs
 element-copy-out-write-term : tie.Need-element-copy-out-write-term Inv-loop μ-loop
 element-copy-out-write-term c =
     let s = c .before .before .before .before .before in
-    omega (arith, c .before .before .loop-test .taken, shift-one (s .args .n) (omega arith), points-le (s .args .n) (s .pre .0 .0))
+    omega (arith, c .before .before .loop-test .taken, one-shifted (s .args .n) (omega arith), points-le (s .args .n) (s .pre .0 .0))
 
 write-term-requires : tie.Need-write-term-requires Inv-loop μ-loop
 write-term-requires c κs =
@@ -49,7 +49,7 @@ write-term-requires c κs =
     let a = s .args in
     let p = l .loop .inv .1 in
     let w = polarity (a .n) (a .mixed) (a .fixed) (at (a .blocks .now)) in
-    let h : l .loop .t < 2 ^ a .n = omega (arith, c .before .before .before .loop-test .taken, shift-one (a .n) (omega arith)) in
+    let h : l .loop .t < 2 ^ a .n = omega (arith, c .before .before .before .loop-test .taken, one-shifted (a .n) (omega arith)) in
     let room = termLines-le (a .n) (a .m) w (at (a .coefficients .now)) (l .loop .t) (2 ^ a .n) h in (
       s .pre .0 .0,
       s .pre .0 .1,
@@ -66,14 +66,14 @@ loop-less : tie.Need-loop-less Inv-loop μ-loop
 loop-less c =
     let l = c .before .before .before .before .before .before .before in
     let s = l .before .before in
-    omega (arith, c .before .before .before .before .before .before .loop-test .taken, shift-one (s .args .n) (omega (arith, s .pre .0 .0)))
+    omega (arith, c .before .before .before .before .before .before .loop-test .taken, one-shifted (s .args .n) (omega (arith, s .pre .0 .0)))
 
 loop-again : tie.Need-loop-again Inv-loop μ-loop
 unfolding termLines
 loop-again c =
     let l = c .before .before .before .before .before .before .before in
     let s = l .before .before in (
-      omega (arith, c .before .before .before .before .before .before .loop-test .taken, shift-one (s .args .n) (omega (arith, s .pre .0 .0))),
+      omega (arith, c .before .before .before .before .before .before .loop-test .taken, one-shifted (s .args .n) (omega (arith, s .pre .0 .0))),
       rw add-one (put-then (l .loop .inv .1) (rw (c .before .before .before .before .before .term-polarity .ensures ∙ fits s (l .loop .t)) at (c .before .before .write-term .ensures))),
     )
 
@@ -84,7 +84,7 @@ returns : tie.Need-returns Inv-loop μ-loop
 returns c =
     let l = c .before .loop in
     let s = c .before .before .before in
-    let e : l .t ≡ 2 ^ s .args .n = omega (arith, l .inv .0, c .loop-test .left, shift-one (s .args .n) (omega (arith, s .pre .0 .0))) in
+    let e : l .t ≡ 2 ^ s .args .n = omega (arith, l .inv .0, c .loop-test .left, one-shifted (s .args .n) (omega (arith, s .pre .0 .0))) in
     rw e at (l .inv .1)
 
 pub write-terms-spec : {M : Type 1} → statement M

@@ -1,7 +1,7 @@
 -- `cube_byte` meets its contract: each return is one case of `cubeByte`.
 use borrow.Author.Needs.{needs}
-use Rattle.text.specs.Listing.{cubeByte}
-use Rattle.text.proofs.Characters.{cubeByte-plain, cubeByte-complemented}
+use Rattle.listings.specs.Listing.{cubeByte}
+use Rattle.listings.proofs.Characters.{cubeByte-plain, cubeByte-complemented}
 use Rattle.text.proofs.writer.cube_byte.Statement.{statement}
 use Rattle.text.proofs.writer.cube_byte.Tie as tie
 

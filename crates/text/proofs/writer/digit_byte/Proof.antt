@@ -2,7 +2,7 @@
 use borrow.Author.Needs.{needs}
 use native.Mathlib.Nat.{one-le-pow}
 use lib.Dec.{lit<}
-use Rattle.text.proofs.Characters.{unit-power}
+use Rattle.listings.proofs.Characters.{unit-power}
 use Rattle.text.proofs.writer.digit_byte.Statement.{statement}
 use Rattle.text.proofs.writer.digit_byte.Tie as tie
 

@@ -1,6 +1,6 @@
 -- `digit_count` meets its contract: each return is one test of `digitCount`, those before it failed.
 use borrow.Author.Tests.{lt-ltb, le-ltb}
-use Rattle.text.specs.Listing.{digitCount}
+use Rattle.listings.specs.Listing.{digitCount}
 use Rattle.text.proofs.writer.digit_count.Statement.{statement}
 use Rattle.text.proofs.writer.digit_count.Tie as tie
 

@@ -4,8 +4,8 @@ use Prim.Native.Nat.{_-_}
 use native.Mathlib.Omega.{arith}
 use borrow.Author.Needs.{needs}
 use lib.ListN.{length}
-use Rattle.text.specs.Cursor.{stop}
-use Rattle.text.proofs.Parts.{length-here, length-on, length-end}
+use Rattle.listings.specs.Parts.{stop}
+use Rattle.listings.proofs.Parts.{length-here, length-on, length-end}
 use Rattle.text.proofs.cursor.Cursor.seek.Statement.{statement}
 use Rattle.text.proofs.cursor.Cursor.seek.Tie as tie
 

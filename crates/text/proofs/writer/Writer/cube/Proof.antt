@@ -2,9 +2,9 @@
 use borrow.Author.Needs.{needs}
 use mathlib.Core.Path.{sym, _∙_}
 use Prim.Native.Nat.{_-_, _<_}
-use Rattle.text.specs.Listing.{cube}
-use Rattle.text.proofs.Puts.{Written, written-none, written-more, written-all}
-use Rattle.text.proofs.Characters.{length-cube, at-cube}
+use Rattle.listings.specs.Listing.{cube}
+use Rattle.text.proofs.writer.Puts.{Written, written-none, written-more, written-all}
+use Rattle.listings.proofs.Characters.{length-cube, at-cube}
 use native.Mathlib.Omega.{arith}
 use Rattle.text.proofs.writer.Writer.cube.Statement.{statement}
 use Rattle.text.proofs.writer.Writer.cube.Tie as tie

@@ -2,9 +2,9 @@
 use borrow.Author.Needs.{needs}
 use mathlib.Core.Path.{sym, _∙_}
 use Prim.Native.Nat.{_-_, _<_}
-use Rattle.text.specs.Listing.{decimal, digitCount}
-use Rattle.text.proofs.Puts.{Written, written-none, written-more, written-all}
-use Rattle.text.proofs.Characters.{length-decimal, at-decimal, digitCount-in}
+use Rattle.listings.specs.Listing.{decimal, digitCount}
+use Rattle.text.proofs.writer.Puts.{Written, written-none, written-more, written-all}
+use Rattle.listings.proofs.Characters.{length-decimal, at-decimal, digitCount-in}
 use native.Mathlib.Omega.{arith}
 use Rattle.text.proofs.writer.Writer.number.Statement.{statement}
 use Rattle.text.proofs.writer.Writer.number.Tie as tie

@@ -2,9 +2,9 @@
 use borrow.Author.Needs.{needs}
 use mathlib.Core.Path.{sym}
 use Prim.Native.Nat.{_-_, _<_}
-use Rattle.text.specs.Listing.{outputBytes}
-use Rattle.text.proofs.Puts.{Written, written-none, written-more, written-all}
-use Rattle.text.proofs.Characters.{length-outputs, at-outputs}
+use Rattle.listings.specs.Listing.{outputBytes}
+use Rattle.text.proofs.writer.Puts.{Written, written-none, written-more, written-all}
+use Rattle.listings.proofs.Characters.{length-outputs, at-outputs}
 use native.Mathlib.Omega.{arith}
 use Rattle.text.proofs.writer.Writer.outputs.Statement.{statement}
 use Rattle.text.proofs.writer.Writer.outputs.Tie as tie

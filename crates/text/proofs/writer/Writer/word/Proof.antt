@@ -3,7 +3,7 @@ use borrow.Author.Needs.{needs}
 use mathlib.Core.Path.{refl}
 use Prim.Native.Nat.{_-_}
 use lib.ListN.{length}
-use Rattle.text.proofs.Puts.{Written, written-none, written-more, written-all}
+use Rattle.text.proofs.writer.Puts.{Written, written-none, written-more, written-all}
 use Rattle.text.proofs.writer.Writer.word.Statement.{statement}
 use Rattle.text.proofs.writer.Writer.word.Tie as tie
 

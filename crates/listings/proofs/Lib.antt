@@ -1,0 +1,9 @@
+pub mod Parts
+pub mod Words
+pub mod Joined
+pub mod Characters
+pub mod Lengths
+pub mod Cubes
+pub mod Meaning
+pub mod Longest
+pub mod ListedAnswers

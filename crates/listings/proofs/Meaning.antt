@@ -1,0 +1,176 @@
+-- What the listing of an expansion means, read from its bytes alone: at every point the value of the expansion (`listing-value`), as many
+-- products and literals as it has (`listing-products`, `listing-literals`), and the numbers of its record on the first line
+-- (`listing-numbers`).
+use mathlib.Core.Bool.{Bool}
+use mathlib.Core.List.{List, [], _∷_, _++_, map, append-assoc}
+use mathlib.Core.Path.{_≡_, refl, sym, ap, _∙_}
+use Prim.Native.Nat.{ℕ, zero, suc, _+_, _/_, _%_, _^_, _≤_, _<_}
+use native.Mathlib.Nat.{add-assoc, add-zero, zero-add}
+use native.Mathlib.Omega.{arith}
+use lib.Bits.{bitXor, xor-comm, xor-zero-r}
+use lib.Dec.{lit<}
+use lib.ListN.{getD}
+use lib.Pow.{pow-mono}
+use Rattle.numbers.specs.Bytes.{at}
+use Rattle.numbers.specs.Sums.{foldBelow}
+use Rattle.numbers.specs.Bits.{bit}
+use Rattle.numbers.specs.Tests.{only}
+use Rattle.algebra.specs.Terms.{holds, value}
+use Rattle.numbers.proofs.Sums.{fold-ext}
+use Rattle.numbers.proofs.Tests.{only-zero}
+use Rattle.numbers.proofs.Xor.{xor-assoc}
+use Rattle.expansions.specs.Costs.{counted, products, literals}
+use Rattle.expansions.specs.Members.{polarity}
+use Rattle.search.specs.declared.expansion.Expansion.{Expansion}
+use Rattle.expansions.proofs.Costs.{products-le}
+use Rattle.listings.specs.Parts.{parts, bytes, same, fields}
+use Rattle.listings.specs.Listing.{tabbed, line, digitCount, decimal, cubeByte, cube, outputBytes, formLine, termLine, ifProduct, termLines, listing, Listable}
+use Rattle.listings.specs.Meaning.{cubeTrue, literalsIn, outputsSaid, finished, linesOf, ofTerm, overLines, overTerms, listingValue, listingProducts, listingLiterals, numberSaid, firstNumbers, statedProducts, statedLiterals}
+use Rattle.listings.proofs.Joined.{Plain, AllPlain, plain-descending, plain-tabulate, parts-fields, parts-lines}
+use Rattle.listings.proofs.Cubes.{cube-holds, cube-literals, outputs-said, decimal-said}
+use Rattle.listings.proofs.Lengths.{numbersOf, termsOf}
+
+-- ---- the fields of a listing are free of separators
+
+pub plain-decimal : (x : ℕ) → Plain (decimal x)
+unfolding decimal
+plain-decimal x = plain-descending (digitCount x) (λ i. 48 + x / 10 ^ i % 10) (λ i. omega arith)
+
+plain-numbers : (xs : List ℕ) → AllPlain (map decimal xs)
+plain-numbers [] = tt
+plain-numbers (x ∷ xs) = (plain-decimal x, plain-numbers xs)
+
+plain-cubeByte : (t w : ℕ) → 10 < cubeByte t w
+unfolding cubeByte
+plain-cubeByte zero w = lit< tt
+plain-cubeByte (suc t) zero = lit< tt
+plain-cubeByte (suc t) (suc w) = lit< tt
+
+plain-cube : (n t w : ℕ) → Plain (cube n t w)
+unfolding cube
+plain-cube n t w = plain-descending n (λ i. cubeByte (bit i t) (bit i w)) (λ i. plain-cubeByte (bit i t) (bit i w))
+
+pub plain-outputs : (m c : ℕ) → Plain (outputBytes m c)
+unfolding outputBytes
+plain-outputs m c = plain-tabulate m (λ o. 48 + bit o c) (λ o. omega arith)
+
+plain-form : Plain (bytes "form")
+unfolding bytes
+plain-form = (lit< tt, (lit< tt, (lit< tt, (lit< tt, tt))))
+
+plain-term : Plain (bytes "term")
+unfolding bytes
+plain-term = (lit< tt, (lit< tt, (lit< tt, (lit< tt, tt))))
+
+pub plain-end : Plain (bytes "end")
+unfolding bytes
+plain-end = (lit< tt, (lit< tt, (lit< tt, tt)))
+
+-- ---- what is joined over the `term` lines
+
+module _ (op : ℕ → ℕ → ℕ) (assoc : (a b c : ℕ) → op (op a b) c ≡ op a (op b c)) (left : (a : ℕ) → op 0 a ≡ a) (right : (a : ℕ) → op a 0 ≡ a)
+    (g : List ℕ → List ℕ → ℕ) where
+  over-line : (word : List ℕ) (fs : List (List ℕ)) (s : List ℕ) → Plain word → AllPlain fs
+      → overTerms op g (line word fs ++ s) ≡ op (only (same word (bytes "term")) (g (getD fs 0 []) (getD fs 1 []))) (overTerms op g s)
+  unfolding overTerms overLines ofTerm fields linesOf finished
+  over-line word fs s p ps = rw (parts-lines word fs s p ps, parts-fields word fs p ps)
+
+  over-product : (n m t w c : ℕ) (s : List ℕ)
+      → overTerms op g (ifProduct c (termLine n m t w c) ++ s) ≡ op (counted c (g (cube n t w) (outputBytes m c))) (overTerms op g s)
+  unfolding ifProduct counted termLine bytes same only
+  over-product n m t w zero s = sym (left (overTerms op g s))
+  over-product n m t w (suc c) s =
+      over-line (bytes "term") (cube n t w ∷ outputBytes m (suc c) ∷ []) s plain-term (plain-cube n t w, (plain-outputs m (suc c), tt))
+
+  over-terms : (n m : ℕ) (w c : ℕ → ℕ) (N : ℕ) (s : List ℕ)
+      → overTerms op g (termLines n m w c N ++ s) ≡ op (foldBelow op N (λ t. counted (c t) (g (cube n t (w t)) (outputBytes m (c t))))) (overTerms op g s)
+  unfolding termLines foldBelow
+  over-terms n m w c zero s = sym (left (overTerms op g s))
+  over-terms n m w c (suc t) s =
+      rw (append-assoc (termLines n m w c t) (ifProduct (c t) (termLine n m t (w t) (c t))) s)
+      (over-terms n m w c t (ifProduct (c t) (termLine n m t (w t) (c t)) ++ s)
+      ∙ rw (over-product n m t (w t) (c t) s) (sym (assoc _ _ _)))
+
+  over-end : overTerms op g (line (bytes "end") []) ≡ 0
+  unfolding line tabbed bytes same only overTerms overLines linesOf finished parts
+  over-end = over-line (bytes "end") [] [] plain-end tt ∙ left 0
+
+  pub over-listing : (n m k : ℕ) (e : Expansion) → let w = polarity n (e .mixed) (e .fixed) (at (e .blocks)) in let c = at (e .coefficients) in
+      overTerms op g (listing n m k e) ≡ foldBelow op (2 ^ n) (λ t. counted (c t) (g (cube n t (w t)) (outputBytes m (c t))))
+  unfolding listing formLine bytes same only
+  over-listing n m k e =
+      ap (overTerms op g) (append-assoc (formLine n m k e) (termsOf n m e) (line (bytes "end") []))
+      ∙ over-line (bytes "form") (map decimal (numbersOf n m k e)) (termsOf n m e ++ line (bytes "end") []) plain-form (plain-numbers (numbersOf n m k e))
+      ∙ left (overTerms op g (termsOf n m e ++ line (bytes "end") []))
+      ∙ over-terms n m (polarity n (e .mixed) (e .fixed) (at (e .blocks))) (at (e .coefficients)) (2 ^ n) (line (bytes "end") [])
+      ∙ rw over-end (right _)
+
+-- ---- the value at a point, the products and the literals
+
+counted-only : (c : ℕ) (b : Bool) → counted c (only b c) ≡ only b c
+unfolding counted
+counted-only zero b = sym (only-zero b)
+counted-only (suc c) b = refl
+
+module _ (n m k : ℕ) (e : Expansion) where
+  pub listing-value : ((t : ℕ) → t < 2 ^ n → at (e .coefficients) t < 2 ^ m) → (p : ℕ)
+      → listingValue (listing n m k e) p ≡ value n (polarity n (e .mixed) (e .fixed) (at (e .blocks))) (at (e .coefficients)) p
+  unfolding listingValue value
+  listing-value small p =
+      over-listing bitXor xor-assoc (λ a. xor-comm 0 a ∙ xor-zero-r a) xor-zero-r (λ cube outputs. only (cubeTrue cube p) (outputsSaid outputs)) n m k e
+      ∙ fold-ext bitXor (2 ^ n) _ _ same-term
+    where
+      w : ℕ → ℕ
+      w = polarity n (e .mixed) (e .fixed) (at (e .blocks))
+
+      c : ℕ → ℕ
+      c = at (e .coefficients)
+
+      same-term : (t : ℕ) → t < 2 ^ n
+          → counted (c t) (only (cubeTrue (cube n t (w t)) p) (outputsSaid (outputBytes m (c t)))) ≡ only (holds t (w t) p) (c t)
+      same-term t l = rw (cube-holds n t (w t) p l, outputs-said m (c t) (small t l)) (counted-only (c t) (holds t (w t) p))
+
+  pub listing-products : listingProducts (listing n m k e) ≡ products n (at (e .coefficients))
+  unfolding listingProducts products
+  listing-products = over-listing _+_ add-assoc zero-add add-zero (λ cube outputs. 1) n m k e
+
+  pub listing-literals : listingLiterals (listing n m k e) ≡ literals n (at (e .coefficients))
+  unfolding listingLiterals literals
+  listing-literals =
+      over-listing _+_ add-assoc zero-add add-zero (λ cube outputs. literalsIn cube) n m k e
+      ∙ fold-ext _+_ (2 ^ n) _ _ (λ t l. ap (λ (x : ℕ). counted (at (e .coefficients) t) x) (cube-literals n t _ l))
+
+-- ---- the numbers of the first line
+
+-- every number has at most four digits
+abbrev Small : List ℕ → Type 0
+Small [] = Unit
+Small (x ∷ xs) = (x < 10000) × Small xs
+
+numbers-said : (xs : List ℕ) → Small xs → map (numberSaid 0) (map decimal xs) ≡ xs
+numbers-said [] h = refl
+numbers-said (x ∷ xs) h = rw (decimal-said x (h .0), numbers-said xs (h .1))
+
+module _ (n m k : ℕ) (e : Expansion) (f : Listable n m e) (digit : k < 10) (few : e .literals < 10000) where
+  small-numbers : Small (numbersOf n m k e)
+  small-numbers =
+      let size : 2 ^ n ≤ 256 = pow-mono {i = n} {j = 8} (f .inputs) in
+      let most : e .products ≤ 2 ^ n = rw (f .counted) (products-le n (at (e .coefficients))) in
+      (omega arith, (omega arith, (omega arith, (omega arith, (omega arith, (omega arith, (few, tt)))))))
+
+  -- n, m, k, M, i, products and literals
+  pub listing-numbers : firstNumbers (listing n m k e) ≡ numbersOf n m k e
+  unfolding firstNumbers listing formLine
+  listing-numbers =
+      ap firstNumbers (append-assoc (formLine n m k e) (termsOf n m e) (line (bytes "end") []))
+      ∙ rw (
+        parts-lines (bytes "form") (map decimal (numbersOf n m k e)) (termsOf n m e ++ line (bytes "end") []) plain-form (plain-numbers (numbersOf n m k e)),
+        parts-fields (bytes "form") (map decimal (numbersOf n m k e)) plain-form (plain-numbers (numbersOf n m k e)),
+      )
+      (numbers-said (numbersOf n m k e) small-numbers)
+
+  pub stated-products : statedProducts (listing n m k e) ≡ e .products
+  stated-products = ap (λ (xs : List ℕ). getD xs 5 0) listing-numbers
+
+  pub stated-literals : statedLiterals (listing n m k e) ≡ e .literals
+  stated-literals = ap (λ (xs : List ℕ). getD xs 6 0) listing-numbers

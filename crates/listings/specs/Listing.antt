@@ -1,0 +1,91 @@
+-- The listing of an expansion, byte by byte. Document 01, "Text in, listing out": "A listing .. is: `form` ..; one line for each product ..; `end`."
+use mathlib.Core.Path.{_≡_}
+use mathlib.Core.Bool.{cond}
+use mathlib.Core.List.{List, [], _∷_, _++_, map}
+use Prim.Native.Nat.{ℕ, zero, suc, _+_, _/_, _%_, _^_, _≤_, _<_}
+use lib.Dec.{ltb}
+use Rattle.numbers.specs.Bytes.{at, tabulate}
+use Rattle.numbers.specs.Bits.{bit}
+use Rattle.expansions.specs.Members.{polarity}
+use Rattle.expansions.specs.Costs.{products}
+use Rattle.search.specs.declared.expansion.Expansion.{Expansion}
+use Rattle.listings.specs.Parts.{bytes}
+
+-- ---- lines
+
+-- "Fields are parted by one tab (byte 9)": each field after a tab
+unfoldable pub tabbed : List (List ℕ) → List ℕ
+tabbed [] = []
+tabbed (f ∷ fs) = 9 ∷ f ++ tabbed fs
+
+-- "Each line ends with byte 10": the line of a word and the fields after it
+unfoldable pub line : List ℕ → List (List ℕ) → List ℕ
+line word fs = word ++ tabbed fs ++ 10 ∷ []
+
+-- g (N - 1), .., g 1, g 0
+unfoldable pub descending : ℕ → (ℕ → ℕ) → List ℕ
+descending zero g = []
+descending (suc N) g = g N ∷ descending N g
+
+-- ---- numbers
+
+-- how many digits x has: "its numbers have one to four digits"
+unfoldable pub digitCount : ℕ → ℕ
+digitCount x = cond (ltb x 10) 1 (cond (ltb x 100) 2 (cond (ltb x 1000) 3 4))
+
+-- x in base ten, the highest digit first, with "no leading zero but `0`"; the character `0` is byte 48
+unfoldable pub decimal : ℕ → List ℕ
+decimal x = descending (digitCount x) (λ i. 48 + x / 10 ^ i % 10)
+
+-- ---- cubes and outputs
+
+-- the character of an input, by its bit in the term and its bit in the polarity: "`1` plain, `0` complemented, `-` absent" (bytes 49, 48, 45)
+unfoldable pub cubeByte : ℕ → ℕ → ℕ
+cubeByte zero w = 45
+cubeByte (suc t) zero = 49
+cubeByte (suc t) (suc w) = 48
+
+-- "The cube has n characters, leftmost xn, rightmost x1", of the term t under the polarity w
+unfoldable pub cube : ℕ → ℕ → ℕ → List ℕ
+cube n t w = descending n (λ i. cubeByte (bit i t) (bit i w))
+
+-- "Outputs are m characters, leftmost output 0, each `0` or `1`", from the coefficient c
+unfoldable pub outputBytes : ℕ → ℕ → List ℕ
+outputBytes m c = tabulate m (λ o. 48 + bit o c)
+
+-- ---- the listing
+
+-- "`form`, n, m, k (a digit), M, i, products, literals."
+unfoldable pub formLine : ℕ → ℕ → ℕ → Expansion → List ℕ
+formLine n m k e = line (bytes "form") (map decimal (n ∷ m ∷ k ∷ e .mixed ∷ e .fixed ∷ e .products ∷ e .literals ∷ []))
+
+-- "`term`, cube, outputs": the term t under the polarity w, with the coefficient c
+unfoldable pub termLine : ℕ → ℕ → ℕ → ℕ → ℕ → List ℕ
+termLine n m t w c = line (bytes "term") (cube n t w ∷ outputBytes m c ∷ [])
+
+-- a term's line where its coefficient is not 0, and no byte where it is: "Products are the terms with c[t] not 0"
+unfoldable pub ifProduct : ℕ → List ℕ → List ℕ
+ifProduct zero l = []
+ifProduct (suc c) l = l
+
+-- the lines of the products among the terms below N, "ascending by t"; w t is the polarity of the term t, and c t its coefficient
+unfoldable pub termLines : ℕ → ℕ → (ℕ → ℕ) → (ℕ → ℕ) → ℕ → List ℕ
+termLines n m w c zero = []
+termLines n m w c (suc t) = termLines n m w c t ++ ifProduct (c t) (termLine n m t (w t) (c t))
+
+-- "One line for each product, ascending by t", of the member M, i, φ with the coefficients c
+abbrev pub productLines : ℕ → ℕ → ℕ → ℕ → (ℕ → ℕ) → (ℕ → ℕ) → List ℕ
+productLines n m M i φ c = termLines n m (polarity n M i φ) c (2 ^ n)
+
+-- the whole listing of the expansion e, of n inputs, m outputs and k mixed inputs
+unfoldable pub listing : ℕ → ℕ → ℕ → Expansion → List ℕ
+listing n m k e =
+    formLine n m k e ++ productLines n m (e .mixed) (e .fixed) (at (e .blocks)) (at (e .coefficients)) ++ line (bytes "end") []
+
+-- an expansion that can be written: at most eight inputs and outputs, masks of n inputs, and as many products as its record states
+pub record Listable (n m : ℕ) (e : Expansion) : Type 0 where
+  pub inputs : n ≤ 8
+  pub outputs : m ≤ 8
+  pub mixed : e .mixed < 2 ^ n
+  pub fixed : e .fixed < 2 ^ n
+  pub counted : e .products ≡ products n (at (e .coefficients))

@@ -1,0 +1,102 @@
+-- What a listing means, from its bytes alone. Document 01, "Text in, listing out".
+use mathlib.Core.Path.{_≡_}
+use mathlib.Core.Bool.{Bool, true, cond, _&&_}
+use mathlib.Core.List.{List, [], _∷_, map}
+use Prim.Native.Nat.{ℕ, _+_, _-_, _*_, _<_, _^_, _≤_}
+use lib.Bits.{bitXor}
+use lib.Dec.{eqb}
+use lib.ListN.{length, getD}
+use Rattle.numbers.specs.Bits.{bit}
+use Rattle.numbers.specs.Tests.{only}
+use Rattle.expansions.specs.Members.{Member, Gives}
+use Rattle.expansions.specs.Costs.{products, literals}
+use Rattle.listings.specs.Parts.{parts, bytes, same, field}
+
+-- ---- the fields of a `term` line
+
+-- whether a cube's character lets its input have the value x: a `1` wants 1, and a `0` wants 0
+unfoldable pub allows : ℕ → ℕ → Bool
+allows b x = cond (eqb b 49) (eqb x 1) (cond (eqb b 48) (eqb x 0) true)
+
+-- "A cube is true at a point where every `1` in it stands for an input that is 1 there and every `0` for an input that is 0 there"; the
+-- rightmost character stands for x1
+unfoldable pub cubeTrue : List ℕ → ℕ → Bool
+cubeTrue [] p = true
+cubeTrue (b ∷ cube) p = allows b (bit (length cube) p) && cubeTrue cube p
+
+-- "The literals in a cube are its characters other than `-`."
+unfoldable pub literalsIn : List ℕ → ℕ
+literalsIn [] = 0
+literalsIn (b ∷ cube) = cond (eqb b 45) 0 1 + literalsIn cube
+
+-- the outputs that characters say, "leftmost output 0": the leftmost character is the lowest bit
+unfoldable pub outputsSaid : List ℕ → ℕ
+outputsSaid [] = 0
+outputsSaid (b ∷ f) = outputsSaid f * 2 + (b - 48)
+
+-- ---- the `term` lines
+
+-- of the parts of a text, a first one and the others, those that a separator ends
+unfoldable pub finished : List ℕ → List (List ℕ) → List (List ℕ)
+finished part [] = []
+finished part (next ∷ others) = part ∷ finished next others
+
+-- "Each line ends with byte 10": what stands after the last byte 10 is no line
+unfoldable pub linesOf : List ℕ → List (List ℕ)
+linesOf s = finished (parts 10 s .first) (parts 10 s .others)
+
+-- what is said of the cube and the outputs of a `term` line, and 0 of any other line
+unfoldable pub ofTerm : (List ℕ → List ℕ → ℕ) → List ℕ → ℕ
+ofTerm g l = only (same (field 0 l) (bytes "term")) (g (field 1 l) (field 2 l))
+
+-- g of each line, joined by op, from 0
+unfoldable pub overLines : (ℕ → ℕ → ℕ) → (List ℕ → ℕ) → List (List ℕ) → ℕ
+overLines op g [] = 0
+overLines op g (l ∷ ls) = op (g l) (overLines op g ls)
+
+-- what is said of each `term` line of a text, joined by op
+unfoldable pub overTerms : (ℕ → ℕ → ℕ) → (List ℕ → List ℕ → ℕ) → List ℕ → ℕ
+overTerms op g s = overLines op (ofTerm g) (linesOf s)
+
+-- "a listing gives at each point the exclusive OR of the outputs on the `term` lines whose cube is true there"
+unfoldable pub listingValue : List ℕ → ℕ → ℕ
+listingValue s p = overTerms bitXor (λ cube outputs. only (cubeTrue cube p) (outputsSaid outputs)) s
+
+-- the number of `term` lines
+unfoldable pub listingProducts : List ℕ → ℕ
+listingProducts s = overTerms _+_ (λ cube outputs. 1) s
+
+-- the literals in the cubes of the `term` lines
+unfoldable pub listingLiterals : List ℕ → ℕ
+listingLiterals s = overTerms _+_ (λ cube outputs. literalsIn cube) s
+
+-- ---- the first line
+
+-- the number that digits say in base ten, after digits that say v
+unfoldable pub numberSaid : ℕ → List ℕ → ℕ
+numberSaid v [] = v
+numberSaid v (b ∷ f) = numberSaid (v * 10 + (b - 48)) f
+
+-- the numbers on the first line after its word: "`form`, n, m, k (a digit), M, i, products, literals"
+unfoldable pub firstNumbers : List ℕ → List ℕ
+firstNumbers s = map (numberSaid 0) (parts 9 (parts 10 s .first) .others)
+
+-- the products that the first line states
+abbrev pub statedProducts : List ℕ → ℕ
+statedProducts s = getD (firstNumbers s) 5 0
+
+-- the literals that the first line states
+abbrev pub statedLiterals : List ℕ → ℕ
+statedLiterals s = getD (firstNumbers s) 6 0
+
+-- ---- demand 3
+
+-- Demand 3 of the bytes of a listing for the table f: "The listing's own lines give every output at every point; its first-line counts are
+-- those of its lines; and every other expansion of the class at that k that gives the same outputs has at least as many products, and where
+-- as many, at least as many literals."
+pub record IsListing (n k : ℕ) (f : ℕ → ℕ) (bytes : List ℕ) : Type 0 where
+  pub gives : (p : ℕ) → p < 2 ^ n → listingValue bytes p ≡ f p
+  pub products-stated : statedProducts bytes ≡ listingProducts bytes
+  pub literals-stated : statedLiterals bytes ≡ listingLiterals bytes
+  pub cheapest : (M i : ℕ) (φ c : ℕ → ℕ) → Member n k M i φ → Gives n M i φ c f
+      → (listingProducts bytes ≤ products n c) × (listingProducts bytes ≡ products n c → listingLiterals bytes ≤ literals n c)

@@ -1,2 +1,0 @@
-pub mod HeldBlocks
-pub mod Designs
