@@ -62,7 +62,7 @@ plain-term : Plain (bytes "term")
 unfolding bytes
 plain-term = (lit< tt, (lit< tt, (lit< tt, (lit< tt, tt))))
 
-pub plain-end : Plain (bytes "end")
+plain-end : Plain (bytes "end")
 unfolding bytes
 plain-end = (lit< tt, (lit< tt, (lit< tt, tt)))
 

@@ -14,7 +14,7 @@ use Rattle.numbers.specs.Bytes.{at}
 use Rattle.numbers.proofs.Bytes.{Filled, filled-none, filled-more}
 use Rattle.text.specs.declared.fields.Number.the-variants.{Is}
 use Rattle.text.specs.declared.lines.FirstLine.the-variants as first
-use Rattle.text.specs.declared.lines.LaterLine.the-variants.{On, End}
+use Rattle.text.specs.declared.lines.LaterLine.the-variants.{On}
 use Rattle.text.specs.declared.read.ReadAnswer.the-variants as answer
 use Rattle.text.specs.declared.sizes.Sizes.{Sizes}
 use Rattle.listings.specs.Parts.{parts, bytes, same, fields}
@@ -67,10 +67,6 @@ point-said m p o hp ho some =
       point-decimal p hp,
       outputs-written m o ho some,
     )
-
-end-said : (m : ℕ) → laterLine m (bytes "end" ++ tabbed []) ≡ End
-unfolding laterLine same bytes tabbed
-end-said m = refl
 
 -- ---- the lines after the first
 

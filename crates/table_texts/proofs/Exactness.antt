@@ -32,7 +32,7 @@ use Rattle.numbers.proofs.Tests.{both-left, both-right}
 use Rattle.table_texts.specs.TableTexts.{pointLine, pointLines, sizesLine, textWith, tableText, dashText}
 use Rattle.table_texts.proofs.Acceptance.{table-text-accepted, dash-text-accepted}
 use Rattle.table_texts.proofs.FieldsRead.{mixed-read}
-use Rattle.table_texts.proofs.LinesRead.{separated, parts-joined, PointLine, point-line-read, end-read, sizes-read}
+use Rattle.table_texts.proofs.LinesRead.{separated, parts-joined, PointRead, point-line-read, end-read, sizes-read}
 use Rattle.table_texts.proofs.PointLines.{listed-some, pointLines-more, pointLines-ext, pointLines-zero}
 
 -- ---- one line of a point
@@ -56,7 +56,7 @@ module _ (z : Sizes) (least : ℕ) (t : List ℕ) (g : UpTo z least t) (low : 2 
   lines-next : (s : List ℕ) → (o ≡ 0 → ⊥)
       → pointLines (z .m) (at t) least ++ (pointLine (z .m) p o ++ s) ≡ pointLines (z .m) (at (set t p o)) (p + 1) ++ s
   lines-next s some =
-      let here : at (set t p o) p ≡ o = getD-set-same t p o 0 (omega (arith, g .long)) in
+      let here : at (set t p o) p ≡ o = getD-set-same t p o 0 (omega arith) in
       let before : pointLines (z .m) (at (set t p o)) p ≡ pointLines (z .m) (at t) p =
       pointLines-ext (z .m) (at (set t p o)) (at t) p (λ q h. getD-set-other t p q o 0 (λ e. omega arith)) in
       let earlier : pointLines (z .m) (at t) p ≡ pointLines (z .m) (at t) least = pointLines-zero (z .m) (at t) least p (g .rest) above in
@@ -81,7 +81,7 @@ ended-read z y number t u [] (l ∷ ls) e = absurd (no-refusal e)
 ended-read z y number t u (b ∷ l) ls e = absurd (no-refusal e)
 
 -- the sizes given are z, and the text from its second line on is the points' lines and the `end` line
-record LinesRead (z y : Sizes) (u s : List ℕ) : Type 0 where
+record AfterFirst (z y : Sizes) (u s : List ℕ) : Type 0 where
   sizes : z ≡ y
   characters : s ≡ pointLines (z .m) (at u) (2 ^ z .n) ++ line (bytes "end") []
 
@@ -90,7 +90,7 @@ unfolding line tabbed bytes
 end-line = refl
 
 lines-read : (ls : List (List ℕ)) (z y : Sizes) (number least : ℕ) (t u l : List ℕ) → 2 ^ z .n ≤ 256 → UpTo z least t
-    → laterLines z number least t l ls ≡ given y u → LinesRead z y u (pointLines (z .m) (at t) least ++ (l ++ separated 10 ls))
+    → laterLines z number least t l ls ≡ given y u → AfterFirst z y u (pointLines (z .m) (at t) least ++ (l ++ separated 10 ls))
 unfolding laterLines separated
 lines-read [] z y number least t u l low g e = absurd (unfinished-refused l number y u e)
 lines-read (l′ ∷ ls) z y number least t u l low g e =
@@ -100,11 +100,14 @@ lines-read (l′ ∷ ls) z y number least t u l low g e =
     rest = l′ ++ separated 10 ls
 
     Whole : Type 0
-    Whole = LinesRead z y u (pointLines (z .m) (at t) least ++ (l ++ separated 10 (l′ ∷ ls)))
+    Whole = AfterFirst z y u (pointLines (z .m) (at t) least ++ (l ++ separated 10 (l′ ∷ ls)))
 
-    tested : (p o : ℕ) (b : Bool) → (ltb p (2 ^ z .n) && leb least p) ≡ b → PointLine (z .m) l p o
-        → (UpTo z (p + 1) (set t p o) → laterLines z (number + 1) (p + 1) (set t p o) l′ ls ≡ given y u
-        → LinesRead z y u (pointLines (z .m) (at (set t p o)) (p + 1) ++ rest))
+    Next : ℕ → ℕ → Type 0
+    Next p o =
+        UpTo z (p + 1) (set t p o) → laterLines z (number + 1) (p + 1) (set t p o) l′ ls ≡ given y u
+        → AfterFirst z y u (pointLines (z .m) (at (set t p o)) (p + 1) ++ rest)
+
+    tested : (p o : ℕ) (b : Bool) → (ltb p (2 ^ z .n) && leb least p) ≡ b → PointRead (z .m) l p o → Next p o
         → cond b (laterLines z (number + 1) (p + 1) (set t p o) l′ ls) (refused 5 number) ≡ given y u → Whole
     tested p o true h says ih f =
         let below : p < 2 ^ z .n = ltb-true p (2 ^ z .n) (both-left (ltb p (2 ^ z .n)) (leb least p) h) in
@@ -112,12 +115,10 @@ lines-read (l′ ∷ ls) z y number least t u l low g e =
         let passed : pointLines (z .m) (at t) least ++ (l ++ 10 ∷ rest) ≡ pointLines (z .m) (at (set t p o)) (p + 1) ++ rest =
         ap (λ (s : List ℕ). pointLines (z .m) (at t) least ++ s) (pointLine-ended (z .m) p o l rest (says .characters))
         ∙ lines-next z least t g low p o above below rest (says .some) in
-        subst (LinesRead z y u) (sym passed) (ih (upTo-next z least t g low p o above below) f)
+        subst (AfterFirst z y u) (sym passed) (ih (upTo-next z least t g low p o above below) f)
     tested p o false h says ih f = absurd (no-refusal f)
 
-    judged : (x : LaterLine) → laterLine (z .m) l ≡ x
-        → ((p o : ℕ) → UpTo z (p + 1) (set t p o) → laterLines z (number + 1) (p + 1) (set t p o) l′ ls ≡ given y u
-        → LinesRead z y u (pointLines (z .m) (at (set t p o)) (p + 1) ++ rest))
+    judged : (x : LaterLine) → laterLine (z .m) l ≡ x → ((p o : ℕ) → Next p o)
         → judgedLater x z number least t (ended z number t l′ ls) (λ least table. laterLines z (number + 1) least table l′ ls) ≡ given y u
         → Whole
     judged (On p o) says ih f = tested p o (ltb p (2 ^ z .n) && leb least p) refl (point-line-read (z .m) l p o says) (ih p o) f
@@ -193,13 +194,13 @@ unfolding tableText dashText
 accepted-text s z t e = go (text-read s z t e) where
   go : TextRead s z t → (s ≡ textWith (decimal (z .k)) z t) ⊎ ((z .k ≡ 1) × (s ≡ textWith (bytes "-") z t))
   go r = either (mixed-read (r .mixed-field) (z .k) (r .said)) where
-    with : (k : List ℕ) → r .mixed-field ≡ k → s ≡ textWith k z t
-    with k h = r .characters ∙ ap (λ (k : List ℕ). textWith k z t) h
+    written : (k : List ℕ) → r .mixed-field ≡ k → s ≡ textWith k z t
+    written k h = r .characters ∙ ap (λ (k : List ℕ). textWith k z t) h
 
     either : (r .mixed-field ≡ decimal (z .k)) ⊎ ((z .k ≡ 1) × (r .mixed-field ≡ bytes "-"))
         → (s ≡ textWith (decimal (z .k)) z t) ⊎ ((z .k ≡ 1) × (s ≡ textWith (bytes "-") z t))
-    either (inl h) = inl (with (decimal (z .k)) h)
-    either (inr h) = inr (h .0, with (bytes "-") (h .1))
+    either (inl h) = inl (written (decimal (z .k)) h)
+    either (inr h) = inr (h .0, written (bytes "-") (h .1))
 
 pub accepted-exactly : (s : List ℕ) (z : Sizes) (t : List ℕ)
     → (reading s ≡ given z t) ↔ (Accepted z t × ((s ≡ tableText z t) ⊎ ((z .k ≡ 1) × (s ≡ dashText z t))))

@@ -83,7 +83,7 @@ digits-nil v x e = cc
 
 -- "no leading zero (but `0`)"
 leading-digit : (b d : ℕ) → not (eqb b 48) ≡ true → b ≡ 48 + d → 1 ≤ d
-leading-digit b d h e = let other = eqb-false b 48 (not-true (eqb b 48) h) in omega (arith, other)
+leading-digit b d h e = let other : b ≡ 48 → ⊥ = eqb-false b 48 (not-true (eqb b 48) h) in omega arith
 
 digits-read : (f : List ℕ) (v : ℕ) → wellFormed f ≡ true → digitsFrom 0 f ≡ Is v → f ≡ decimal v
 unfolding wellFormed
@@ -91,16 +91,16 @@ digits-read [] v h e = absurd (false≢true h)
 digits-read (a ∷ []) v h e =
     let i = digits-cons 0 a [] v e in
     let sum : i .value ≡ v = omega (arith, digits-nil (0 * 10 + i .value) v (i .others)) in
-    let low : a ≡ 48 + v = omega (arith, i .byte) in
-    rw low (sym (decimal-one v (omega (arith, i .small))))
+    let low : a ≡ 48 + v = omega arith in
+    rw low (sym (decimal-one v (omega arith)))
 digits-read (a ∷ b ∷ []) v h e =
     let i = digits-cons 0 a (b ∷ []) v e in
     let j = digits-cons (0 * 10 + i .value) b [] v (i .others) in
     let some : 1 ≤ i .value = leading-digit a (i .value) h (i .byte) in
     let sum : i .value * 10 + j .value ≡ v = omega (arith, digits-nil ((0 * 10 + i .value) * 10 + j .value) v (j .others)) in
-    let high : a ≡ 48 + v / 10 = omega (arith, i .byte, j .small) in
-    let low : b ≡ 48 + v % 10 = omega (arith, j .byte, j .small) in
-    rw (high, low) (sym (decimal-two v (omega arith) (omega (arith, i .small, j .small))))
+    let high : a ≡ 48 + v / 10 = omega arith in
+    let low : b ≡ 48 + v % 10 = omega arith in
+    rw (high, low) (sym (decimal-two v (omega arith) (omega arith)))
 digits-read (a ∷ b ∷ c ∷ []) v h e =
     let i = digits-cons 0 a (b ∷ c ∷ []) v e in
     let j = digits-cons (0 * 10 + i .value) b (c ∷ []) v (i .others) in
@@ -108,10 +108,10 @@ digits-read (a ∷ b ∷ c ∷ []) v h e =
     let some : 1 ≤ i .value = leading-digit a (i .value) h (i .byte) in
     let sum : (i .value * 10 + j .value) * 10 + k .value ≡ v =
     omega (arith, digits-nil (((0 * 10 + i .value) * 10 + j .value) * 10 + k .value) v (k .others)) in
-    let high : a ≡ 48 + v / 100 = omega (arith, i .byte, j .small, k .small) in
-    let middle : b ≡ 48 + v / 10 % 10 = omega (arith, j .byte, j .small, k .small) in
-    let low : c ≡ 48 + v % 10 = omega (arith, k .byte, k .small) in
-    rw (high, middle, low) (sym (decimal-three v (omega arith) (omega (arith, i .small, j .small, k .small))))
+    let high : a ≡ 48 + v / 100 = omega arith in
+    let middle : b ≡ 48 + v / 10 % 10 = omega arith in
+    let low : c ≡ 48 + v % 10 = omega arith in
+    rw (high, middle, low) (sym (decimal-three v (omega arith) (omega arith)))
 digits-read (a ∷ b ∷ c ∷ d ∷ f) v h e = absurd (omega (arith, wellFormed-le (a ∷ b ∷ c ∷ d ∷ f) h))
 
 pub point-read : (f : List ℕ) (v : ℕ) → point f ≡ Is v → f ≡ decimal v

@@ -65,7 +65,8 @@ headed-read count word l e =
 
 -- ---- a line after the first
 
-pub record PointLine (m : ℕ) (l : List ℕ) (p o : ℕ) : Type 0 where
+-- the characters of a line that says the point p with the outputs o
+pub record PointRead (m : ℕ) (l : List ℕ) (p o : ℕ) : Type 0 where
   pub characters : l ≡ bytes "on" ++ tabbed (decimal p ∷ outputBytes m o ∷ [])
   pub some : o ≡ 0 → ⊥
 
@@ -77,11 +78,11 @@ on-read (Is a) (Is b) p o e = (cc, cc)
 on-read (Is a) Wrong p o e = absurd (wrong-on e)
 on-read Wrong y p o e = absurd (wrong-on e)
 
-pub point-line-read : (m : ℕ) (l : List ℕ) (p o : ℕ) → laterLine m l ≡ later.On p o → PointLine m l p o
+pub point-line-read : (m : ℕ) (l : List ℕ) (p o : ℕ) → laterLine m l ≡ later.On p o → PointRead m l p o
 unfolding laterLine fields
 point-line-read m l p o e = go (same l (bytes "end")) (headed 3 (bytes "on") l) refl e where
   go : (s t : Bool) → headed 3 (bytes "on") l ≡ t
-      → cond s later.End (cond t (onLine (point (field 1 l)) (outputs m (field 2 l))) later.Wrong) ≡ later.On p o → PointLine m l p o
+      → cond s later.End (cond t (onLine (point (field 1 l)) (outputs m (field 2 l))) later.Wrong) ≡ later.On p o → PointRead m l p o
   go true t h g = absurd (end-on g)
   go false false h g = absurd (wrong-on g)
   go false true h g =
@@ -113,7 +114,8 @@ end-read m l e = go (same l (bytes "end")) (headed 3 (bytes "on") l) refl e wher
 
 -- ---- the first line
 
-pub record SizesLine (l : List ℕ) (z : Sizes) : Type 0 where
+-- the characters of a first line that gives the sizes z; `mixed-field` are those for k
+pub record SizesRead (l : List ℕ) (z : Sizes) : Type 0 where
   pub mixed-field : List ℕ
   pub characters : l ≡ bytes "table" ++ tabbed (decimal (z .n) ∷ decimal (z .m) ∷ mixed-field ∷ [])
   pub said : mixed mixed-field ≡ Is (z .k)
@@ -129,11 +131,11 @@ table-read (Is a) (Is b) Wrong z e = absurd (wrong-table e)
 table-read (Is a) Wrong w z e = absurd (wrong-table e)
 table-read Wrong y w z e = absurd (wrong-table e)
 
-pub sizes-read : (l : List ℕ) (z : Sizes) → firstLine l ≡ first.Table z → SizesLine l z
+pub sizes-read : (l : List ℕ) (z : Sizes) → firstLine l ≡ first.Table z → SizesRead l z
 unfolding firstLine fields
 sizes-read l z e = go (headed 4 (bytes "table") l) refl e where
   go : (t : Bool) → headed 4 (bytes "table") l ≡ t
-      → cond t (tableLine (oneDigit (field 1 l)) (oneDigit (field 2 l)) (mixed (field 3 l))) first.Wrong ≡ first.Table z → SizesLine l z
+      → cond t (tableLine (oneDigit (field 1 l)) (oneDigit (field 2 l)) (mixed (field 3 l))) first.Wrong ≡ first.Table z → SizesRead l z
   go false h g = absurd (wrong-table g)
   go true h g =
       let shape = headed-read 3 (bytes "table") l h in
