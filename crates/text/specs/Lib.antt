@@ -8,3 +8,4 @@ pub mod Meaning
 pub mod Write
 pub mod Accepted
 pub mod Compile
+pub mod Print

@@ -1,6 +1,6 @@
 -- A table that was read, minimised and written: the search hands up its answer (`searched-table`), the answer can be written
 -- (`table-listable`), and what the writer leaves is what the text call owes (`compiled-answer`, `compiled-bytes`).
-use mathlib.Core.Path.{_≡_, refl, sym, ap, _∙_}
+use mathlib.Core.Path.{_≡_, refl, ap, _∙_}
 use mathlib.Core.Bool.{Bool, true, false, cond}
 use mathlib.Core.List.{List}
 use Prim.Native.Nat.{ℕ, _*_, _%_, _^_, _≤_, _<_}
@@ -24,7 +24,6 @@ use Rattle.text.specs.declared.compile.Compiled.{Compiled}
 use Rattle.text.specs.declared.compile.Compiled.the-variants.{Written, Refused}
 use Rattle.text.specs.Accepted.{Accepted}
 use Rattle.text.specs.Read.{given}
-use Rattle.text.specs.Listing.{listing}
 use Rattle.text.specs.Write.{Listable, WriteListing}
 use Rattle.text.specs.Compile.{answerListing, compiled, bufferAfter}
 use Rattle.text.proofs.ListedAnswers.{answer-listable}

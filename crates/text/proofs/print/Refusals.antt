@@ -1,0 +1,134 @@
+-- The refusal of a text: its number is 1 to 6, and its line is at least 1 and at most one more than the text has bytes (`reading-refused`).
+-- So the numbers of a line `refused` have at most four digits, and the printed line says them back (`refused-line-says`).
+use mathlib.Core.Bool.{Bool, true, false, cond, _&&_, _||_}
+use mathlib.Core.List.{List, [], _∷_, _++_, map, append-assoc, append-nil}
+use mathlib.Core.Path.{_≡_, sym, ap, _∙_}
+use Prim.Native.Nat.{ℕ, suc, _+_, _^_, _<_, _≤_}
+use native.Mathlib.Omega.{arith}
+use lib.Dec.{eqb, leb, ltb, lit<}
+use lib.ListN.{length, set, replicate, length-append}
+use Rattle.text.specs.declared.lines.FirstLine.the-variants as first
+use Rattle.text.specs.declared.lines.FirstLine.{FirstLine}
+use Rattle.text.specs.declared.lines.LaterLine.the-variants.{On, End, Wrong}
+use Rattle.text.specs.declared.lines.LaterLine.{LaterLine}
+use Rattle.text.specs.declared.read.ReadAnswer.the-variants as answer
+use Rattle.text.specs.declared.read.Sizes.{Sizes}
+use Rattle.text.specs.Cursor.{withByte, parts}
+use Rattle.text.specs.Fields.{bytes}
+use Rattle.text.specs.Lines.{firstLine, laterLine}
+use Rattle.text.specs.Listing.{tabbed, line, decimal}
+use Rattle.text.specs.Meaning.{firstNumbers}
+use Rattle.text.specs.Read.{Reading, given, refused, unfinished, ended, judgedLater, laterLines, outside, judgedFirst, opened, allLines, reading}
+use Rattle.text.specs.Print.{refusedLine}
+use Rattle.text.proofs.Joined.{Plain, parts-fields, parts-lines}
+use Rattle.text.proofs.Lengths.{digitsOf-le, length-numbers}
+use Rattle.text.proofs.Meaning.{plain-numbers, numbers-said}
+
+-- ---- the number and the line
+
+-- a refusal by 1 to 6, on a line from `least` to `most`
+abbrev pub RefusedIn : ℕ → ℕ → Reading → Type 0
+RefusedIn least most (given z table) = Unit
+RefusedIn least most (refused number l) = ((1 ≤ number) × (number ≤ 6)) × ((least ≤ l) × (l ≤ most))
+
+widen : (a b c d : ℕ) (x : Reading) → c ≤ a → b ≤ d → RefusedIn a b x → RefusedIn c d x
+widen a b c d (given z table) h g r = tt
+widen a b c d (refused number l) h g r = (r .0, (omega arith, omega arith))
+
+unfinished-in : (l : List ℕ) (k : ℕ) → RefusedIn k k (unfinished l k)
+unfolding unfinished
+unfinished-in [] k = ((omega arith, omega arith), (omega arith, omega arith))
+unfinished-in (b ∷ l) k = ((omega arith, omega arith), (omega arith, omega arith))
+
+ended-in : (z : Sizes) (k : ℕ) (table l : List ℕ) (ls : List (List ℕ)) → RefusedIn k (k + 1) (ended z k table l ls)
+unfolding ended
+ended-in z k table [] [] = tt
+ended-in z k table [] (l ∷ ls) = ((omega arith, omega arith), (omega arith, omega arith))
+ended-in z k table (b ∷ l) ls = ((omega arith, omega arith), (omega arith, omega arith))
+
+-- from the line k on, with as many lines after it as stand in ls
+later-in : (ls : List (List ℕ)) (z : Sizes) (k least : ℕ) (table l : List ℕ) → RefusedIn k (k + length ls) (laterLines z k least table l ls)
+unfolding laterLines
+later-in [] z k least table l = widen k k k (k + 0) (unfinished l k) (omega arith) (omega arith) (unfinished-in l k)
+later-in (l′ ∷ ls) z k least table l =
+    judged (laterLine (z .m) l) (λ p t. later-in ls z (k + 1) p t l′)
+  where
+    tested : (b : Bool) (x : Reading) → RefusedIn (k + 1) (k + 1 + length ls) x → RefusedIn k (k + suc (length ls)) (cond b x (refused 5 k))
+    tested true x ih = widen (k + 1) (k + 1 + length ls) k (k + suc (length ls)) x (omega arith) (omega arith) ih
+    tested false x ih = ((omega arith, omega arith), (omega arith, omega arith))
+
+    judged : (x : LaterLine) → ((p : ℕ) (t : List ℕ) → RefusedIn (k + 1) (k + 1 + length ls) (laterLines z (k + 1) p t l′ ls))
+        → RefusedIn k (k + suc (length ls))
+        (judgedLater x z k least table (ended z k table l′ ls) (λ least table. laterLines z (k + 1) least table l′ ls))
+    judged (On p o) ih = tested (ltb p (2 ^ z .n) && leb least p) _ (ih (p + 1) (set table p o))
+    judged End ih = widen k (k + 1) k (k + suc (length ls)) (ended z k table l′ ls) (omega arith) (omega arith) (ended-in z k table l′ ls)
+    judged Wrong ih = ((omega arith, omega arith), (omega arith, omega arith))
+
+-- what the first line leads to
+opened-in : (x : FirstLine) (next : Sizes → Reading) (most : ℕ) → 1 ≤ most → ((z : Sizes) → RefusedIn 2 most (next z))
+    → RefusedIn 1 most (opened (judgedFirst x) next)
+unfolding judgedFirst
+opened-in first.Wrong next most h ih = ((omega arith, omega arith), (omega arith, h))
+opened-in (first.Table z) next most h ih = tested (outside (z .n)) (outside (z .m)) (ltb 3 (z .k) || ltb (z .n) (z .k)) where
+  tested : (a b c : Bool)
+      → RefusedIn 1 most (opened (cond a (answer.Refused 2 1) (cond b (answer.Refused 3 1) (cond c (answer.Refused 4 1) (answer.Given z)))) next)
+  tested true b c = ((omega arith, omega arith), (omega arith, h))
+  tested false true c = ((omega arith, omega arith), (omega arith, h))
+  tested false false true = ((omega arith, omega arith), (omega arith, h))
+  tested false false false = widen 2 most 1 most (next z) (omega arith) (omega arith) (ih z)
+
+all-in : (l : List ℕ) (ls : List (List ℕ)) → RefusedIn 1 (length ls + 1) (allLines l ls)
+unfolding allLines
+all-in l [] = unfinished-in l 1
+all-in l (l′ ∷ ls) =
+    opened-in (firstLine l) _ (suc (length ls) + 1) (omega arith)
+    (λ z. widen 2 (2 + length ls) 2 (suc (length ls) + 1) (laterLines z 2 0 (replicate 256 0) l′ ls) (omega arith) (omega arith) (later-in ls z 2 0 (replicate 256 0) l′))
+
+others-le : (separator : ℕ) (s : List ℕ) → length (parts separator s .others) ≤ length s
+unfolding parts
+others-le separator [] = omega arith
+others-le separator (b ∷ s) = go (eqb b separator) (others-le separator s) where
+  go : (t : Bool) → length (parts separator s .others) ≤ length s → length (withByte t b (parts separator s) .others) ≤ suc (length s)
+  go true h = omega arith
+  go false h = omega arith
+
+reading-in : (s : List ℕ) → RefusedIn 1 (length s + 1) (reading s)
+unfolding reading
+reading-in s =
+    widen 1 (length (parts 10 s .others) + 1) 1 (length s + 1) (allLines (parts 10 s .first) (parts 10 s .others)) (omega arith)
+    (omega (arith, others-le 10 s)) (all-in (parts 10 s .first) (parts 10 s .others))
+
+pub reading-refused : (s : List ℕ) (number l : ℕ) → reading s ≡ refused number l
+    → ((1 ≤ number) × (number ≤ 6)) × ((1 ≤ l) × (l ≤ length s + 1))
+reading-refused s number l e = rw e at (reading-in s)
+
+-- ---- the line `refused`
+
+plain-refused : Plain (bytes "refused")
+unfolding bytes
+plain-refused = (lit< tt, (lit< tt, (lit< tt, (lit< tt, (lit< tt, (lit< tt, (lit< tt, tt)))))))
+
+pub refused-line-says : (number l : ℕ) → number < 10000 → l < 10000 → firstNumbers (refusedLine number l) ≡ number ∷ l ∷ []
+unfolding firstNumbers refusedLine
+refused-line-says number l hn hl =
+    let xs : List ℕ = number ∷ l ∷ [] in
+    ap firstNumbers (sym (append-nil (line (bytes "refused") (map decimal xs))))
+    ∙ rw (
+      parts-lines (bytes "refused") (map decimal xs) [] plain-refused (plain-numbers xs),
+      parts-fields (bytes "refused") (map decimal xs) plain-refused (plain-numbers xs),
+    )
+    (numbers-said xs (hn, (hl, tt)))
+
+-- ---- how it is written, and how long it is
+
+pub refused-line-fields : (number l : ℕ)
+    → refusedLine number l ≡ bytes "refused" ++ (9 ∷ []) ++ decimal number ++ (9 ∷ []) ++ decimal l ++ (10 ∷ [])
+unfolding refusedLine line tabbed bytes
+refused-line-fields number l =
+    simp (append-assoc, append-nil) (ap (λ (v : List ℕ). bytes "refused" ++ 9 ∷ v) (append-assoc (decimal number) (9 ∷ decimal l) (10 ∷ [])))
+
+pub refused-line-le : (number l : ℕ) → length (refusedLine number l) ≤ 18
+unfolding refusedLine line bytes
+refused-line-le number l =
+    let xs : List ℕ = number ∷ l ∷ [] in
+    omega (arith, length-append (tabbed (map decimal xs)) (10 ∷ []), length-numbers xs, digitsOf-le xs)

@@ -1,0 +1,40 @@
+-- What the programs print. Document 01: "The program `rmform` judges the first 8,192 bytes of standard input as the whole text .. and writes
+-- the listing, or the line `refused`, number, line."
+use mathlib.Core.List.{List, [], _∷_, _++_}
+use mathlib.Core.Path.{_≡_}
+use Prim.Native.Nat.{ℕ, _-_, _≤_}
+use lib.ListN.{length, take, replicate}
+use Rattle.algebra.specs.Bytes.{at}
+use Rattle.text.specs.declared.read.Sizes.{Sizes}
+use Rattle.text.specs.Fields.{bytes}
+use Rattle.text.specs.Read.{Reading, given, refused, reading}
+use Rattle.text.specs.Listing.{line, decimal}
+use Rattle.text.specs.Meaning.{firstNumbers}
+use Rattle.text.specs.Compile.{answerListing, IsListing}
+
+-- "judges the first 8,192 bytes of standard input as the whole text"
+abbrev pub judged : List ℕ → List ℕ
+judged input = take 8192 input
+
+-- "the line `refused`, number, line"
+unfoldable pub refusedLine : ℕ → ℕ → List ℕ
+refusedLine number l = line (bytes "refused") (decimal number ∷ decimal l ∷ [])
+
+-- "the listing, or the line `refused`, number, line", by what the text means
+unfoldable pub printedFor : Reading → List ℕ
+printedFor (given z table) = answerListing z table
+printedFor (refused number l) = refusedLine number l
+
+-- what is printed for an input
+unfoldable pub printed : List ℕ → List ℕ
+printed input = printedFor (reading (judged input))
+
+-- What is handed out for an input, 5,916 bytes and how many of them are printed. For an accepted text the printed bytes are what demand 3
+-- asks of a listing, and for a refused one its numbers, read back in base ten, are the refusal's number and line.
+pub record Print (input held : List ℕ) (count : ℕ) : Type 0 where
+  pub counted : count ≡ length (printed input)
+  pub filled : held ≡ printed input ++ replicate (5916 - length (printed input)) 0
+  pub within : count ≤ length held
+  pub shown : take count held ≡ printed input
+  pub meaning : (z : Sizes) (table : List ℕ) → reading (judged input) ≡ given z table → IsListing z (at table) (take count held)
+  pub refusal : (number l : ℕ) → reading (judged input) ≡ refused number l → firstNumbers (take count held) ≡ number ∷ l ∷ []
