@@ -34,15 +34,16 @@ fn judged_length(input: &[u8]) -> usize
     }
 }
 
-// Writes the line `refused`, number, line into the front of `out`, and gives its length.
+// Writes the line `refused`, number, line into the front of `out`, which has room for the longest listing, and gives the line's length.
 fn write_refused(number: usize, line: usize, out: &mut [u8]) -> usize
-    requires { ⌜ 18 ≤ length (now out) ⌝ }
+    requires { ⌜ length (now out) ≡ 5916 ⌝ }
     ensures { λ r. ⌜ Put (now (out .entry)) 0 (refusedLine number line) (now (out .exit)) r ⌝ }
 {
     let start = Writer { at: 0 };
-    let first = start.word(out, b"refused").byte(out, b'\t');
-    let second = first.number(out, number).byte(out, b'\t');
-    let stop = second.number(out, line).byte(out, b'\n');
+    let word = start.word(out, b"refused");
+    let first = word.byte(out, b'\t').number(out, number);
+    let second = first.byte(out, b'\t').number(out, line);
+    let stop = second.byte(out, b'\n');
     stop.at
 }
 

@@ -21,6 +21,7 @@ use Rattle.text.specs.Meaning.{firstNumbers}
 use Rattle.text.specs.Read.{Reading, given, refused, unfinished, ended, judgedLater, laterLines, outside, judgedFirst, opened, allLines, reading}
 use Rattle.text.specs.Print.{refusedLine}
 use Rattle.text.proofs.Joined.{Plain, parts-fields, parts-lines}
+use Rattle.text.proofs.Characters.{length-decimal, digitCount-in}
 use Rattle.text.proofs.Lengths.{digitsOf-le, length-numbers}
 use Rattle.text.proofs.Meaning.{plain-numbers, numbers-said}
 
@@ -120,6 +121,9 @@ refused-line-says number l hn hl =
     (numbers-said xs (hn, (hl, tt)))
 
 -- ---- how it is written, and how long it is
+
+pub decimal-le : (x : ℕ) → length (decimal x) ≤ 4
+decimal-le x = omega (arith, length-decimal x, digitCount-in x)
 
 pub refused-line-fields : (number l : ℕ)
     → refusedLine number l ≡ bytes "refused" ++ (9 ∷ []) ++ decimal number ++ (9 ∷ []) ++ decimal l ++ (10 ∷ [])

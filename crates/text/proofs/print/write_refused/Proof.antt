@@ -3,8 +3,8 @@ use borrow.Author.Needs.{needs}
 use native.Mathlib.Omega.{arith}
 use Rattle.text.specs.Fields.{bytes}
 use Rattle.text.proofs.Puts.{put-then, put-length}
-use Rattle.text.proofs.Characters.{length-decimal, digitCount-in}
-use Rattle.text.proofs.print.Refusals.{refused-line-fields}
+use Rattle.text.proofs.Characters.{digitCount-in}
+use Rattle.text.proofs.print.Refusals.{decimal-le, refused-line-fields}
 use Rattle.text.proofs.print.write_refused.Statement.{statement}
 use Rattle.text.proofs.print.write_refused.Tie as tie
 
@@ -21,21 +21,21 @@ number-requires : tie.Need-number-requires
 number-requires c κs =
     let tab = c .before .before .before in
     let word = tab .before .before .before .before in
-    let s = word .before .before .before .before in
+    let a = word .before .before .before .before .args in
     let b = tab .byte .ensures in
     let w = word .word .ensures in
-    omega (arith, w .to, put-length w, b .to, put-length b, digitCount-in (s .args .number))
+    omega (arith, w .to, put-length w, b .to, put-length b, digitCount-in (a .number), digitCount-in (a .line))
 
 byte-requires-2 : tie.Need-byte-requires-2
 byte-requires-2 c κs =
     let first = c .before .before .before in
     let tab = first .before .before .before .before in
     let word = tab .before .before .before .before in
-    let s = word .before .before .before .before in
+    let a = word .before .before .before .before .args in
     let x = first .number .ensures in
     let b = tab .byte .ensures in
     let w = word .word .ensures in
-    omega (arith, w .to, put-length w, b .to, put-length b, x .to, put-length x, length-decimal (s .args .number), digitCount-in (s .args .number))
+    omega (arith, w .to, put-length w, b .to, put-length b, x .to, put-length x, decimal-le (a .number), decimal-le (a .line))
 
 number-requires-2 : tie.Need-number-requires-2
 number-requires-2 c κs =
@@ -48,7 +48,9 @@ number-requires-2 c κs =
     let x = first .number .ensures in
     let b = tab .byte .ensures in
     let w = word .word .ensures in
-    omega (arith, w .to, put-length w, b .to, put-length b, x .to, put-length x, d .to, put-length d, length-decimal (a .number), digitCount-in (a .number), digitCount-in (a .line))
+    let number = decimal-le (a .number) in
+    let line = decimal-le (a .line) in
+    omega (arith, w .to, put-length w, b .to, put-length b, x .to, put-length x, d .to, put-length d, digitCount-in (a .number), digitCount-in (a .line))
 
 byte-requires-3 : tie.Need-byte-requires-3
 byte-requires-3 c κs =
@@ -63,9 +65,9 @@ byte-requires-3 c κs =
     let x = first .number .ensures in
     let b = tab .byte .ensures in
     let w = word .word .ensures in
-    let number = length-decimal (a .number) in
-    let line = length-decimal (a .line) in
-    omega (arith, w .to, put-length w, b .to, put-length b, x .to, put-length x, d .to, put-length d, y .to, put-length y, digitCount-in (a .number), digitCount-in (a .line))
+    let number = decimal-le (a .number) in
+    let line = decimal-le (a .line) in
+    omega (arith, w .to, put-length w, b .to, put-length b, x .to, put-length x, d .to, put-length d, y .to, put-length y)
 
 same-length : tie.Need-same-length
 same-length c = search needs
