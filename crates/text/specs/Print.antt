@@ -29,8 +29,8 @@ printedFor (refused number l) = refusedLine number l
 unfoldable pub printed : List ℕ → List ℕ
 printed input = printedFor (reading (judged input))
 
--- What is handed out for an input, 5,916 bytes and how many of them are printed. For an accepted text the printed bytes are what demand 3
--- asks of a listing, and for a refused one its numbers, read back in base ten, are the refusal's number and line.
+-- What is handed out for an input: 5,916 bytes, zero past what is printed, and how many are printed. The bytes printed for an accepted text
+-- are a listing as demand 3 asks, and the numbers on the line printed for a refused one, read in base ten, are the refusal's number and line.
 pub record Print (input held : List ℕ) (count : ℕ) : Type 0 where
   pub counted : count ≡ length (printed input)
   pub filled : held ≡ printed input ++ replicate (5916 - length (printed input)) 0

@@ -1,13 +1,13 @@
 -- What is printed fits 5,916 bytes (`printed-within`), and stands at their front: after the text call, where it wrote a listing
 -- (`print-written`), and after the line `refused` was written, where it refused the text (`print-refused`).
 use mathlib.Core.Bool.{Bool, true, false, cond}
-use mathlib.Core.List.{List, [], _∷_, _++_}
+use mathlib.Core.List.{List, _++_}
 use mathlib.Core.Path.{_≡_, refl, sym, ap, subst, _∙_}
 use Prim.Native.Nat.{ℕ, _+_, _-_, _≤_}
 use native.Mathlib.Omega.{arith}
 use borrow.Author.Tests.{le-leb}
 use lib.Dec.{leb}
-use lib.ListN.{length, take, drop, replicate, length-append, length-replicate, length-take, replicate-append-replicate}
+use lib.ListN.{length, take, drop, replicate, length-append, length-replicate, replicate-append-replicate}
 use lib.Seq.{take-append-seam, drop-at}
 use Rattle.algebra.specs.Bytes.{at}
 use Rattle.search.specs.Expansion.{answerExpansion}
@@ -25,7 +25,7 @@ use Rattle.text.proofs.Accepted.{reading-accepted}
 use Rattle.text.proofs.Longest.{listing-longest}
 use Rattle.text.proofs.Puts.{put-front}
 use Rattle.text.proofs.compile.Listings.{answer-listing}
-use Rattle.text.proofs.print.Refusals.{reading-refused, refused-line-says, refused-line-le}
+use Rattle.text.proofs.print.Refusals.{refusal-said, refused-line-le}
 
 -- ---- what is printed fits
 
@@ -56,12 +56,6 @@ drop-zeros k n h =
     let whole : k + (n - k) ≡ n = omega arith in
     let parted = replicate-append-replicate {A = ℕ} k (n - k) 0 ∙ ap (λ (x : ℕ). replicate {A = ℕ} x 0) whole in
     ap (drop k) (sym parted) ∙ drop-at (replicate k 0) (replicate (n - k) 0) k (length-replicate {A = ℕ} k 0)
-
-refusal-said : (input : List ℕ) (number l : ℕ) → reading (judged input) ≡ refused number l → firstNumbers (refusedLine number l) ≡ number ∷ l ∷ []
-refusal-said input number l e =
-    let bounds = reading-refused (judged input) number l e in
-    let few : length (judged input) ≤ 8192 = omega (arith, length-take 8192 input) in
-    refused-line-says number l (omega (arith, bounds .0 .1)) (omega (arith, bounds .1 .1))
 
 print-holds : (input held : List ℕ) (count : ℕ) → count ≡ length (printed input)
     → held ≡ printed input ++ drop (length (printed input)) zeros → Print input held count
