@@ -1,7 +1,11 @@
 // Runs the text call on many texts, and writes the answer of each as `rmform` does. `stdin` holds the cases and `stdout` what a truth-table
 // evaluator in another language expects. Each case is a line with the length of its text, in base ten, and then the text.
+// The contract of `print_answer` states what is printed for every text (`Print` in crates/text/specs/Print.antt). Every text that can be
+// accepted is shorter than the 8,192 bytes that are judged: it has at most 4,002 (the law `accepted-text-length` of the crate `table_texts`).
 use libc::STDIN_FILENO;
-use report::write_answer;
+use libc::STDOUT_FILENO;
+use text::print::Printed;
+use text::print::print_answer;
 
 // What a length line says; or the input has ended.
 enum Length {
@@ -46,16 +50,19 @@ fn read_length() -> Length {
 
 // Fills `text` from the input, and writes the answer of what was read.
 fn answer_text(text: &mut [u8]) {
-    let length = io::read_full(STDIN_FILENO, text);
-    write_answer(&text[..length]);
+    let read = io::read_full(STDIN_FILENO, text);
+    let printed = print_answer(&text[..read]);
+    let bytes = printed.bytes;
+    let length = printed.length;
+    io::write_all(STDOUT_FILENO, &bytes[..length]);
 }
 
 // Answers the next case, and says whether there was one. A text is at most 8,192 bytes.
 fn answer_next() -> bool {
-    let mut buffer = [0u8; 8192];
+    let mut buffer = [0u8; Printed::INPUT_BYTES];
     match read_length() {
         Length::Is(length) => {
-            if length > 8192 {
+            if length > Printed::INPUT_BYTES {
                 return false;
             }
             answer_text(&mut buffer[..length]);

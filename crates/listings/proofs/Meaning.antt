@@ -36,7 +36,7 @@ pub plain-decimal : (x : ℕ) → Plain (decimal x)
 unfolding decimal
 plain-decimal x = plain-descending (digitCount x) (λ i. 48 + x / 10 ^ i % 10) (λ i. omega arith)
 
-plain-numbers : (xs : List ℕ) → AllPlain (map decimal xs)
+pub plain-numbers : (xs : List ℕ) → AllPlain (map decimal xs)
 plain-numbers [] = tt
 plain-numbers (x ∷ xs) = (plain-decimal x, plain-numbers xs)
 
@@ -143,11 +143,11 @@ module _ (n m k : ℕ) (e : Expansion) where
 -- ---- the numbers of the first line
 
 -- every number has at most four digits
-abbrev Small : List ℕ → Type 0
+abbrev pub Small : List ℕ → Type 0
 Small [] = Unit
 Small (x ∷ xs) = (x < 10000) × Small xs
 
-numbers-said : (xs : List ℕ) → Small xs → map (numberSaid 0) (map decimal xs) ≡ xs
+pub numbers-said : (xs : List ℕ) → Small xs → map (numberSaid 0) (map decimal xs) ≡ xs
 numbers-said [] h = refl
 numbers-said (x ∷ xs) h = rw (decimal-said x (h .0), numbers-said xs (h .1))
 

@@ -1,11 +1,16 @@
-// The program `rmform` of document 01: it judges the first 8,192 bytes of standard input as the whole text, and writes the listing, or the
-// line `refused`, number, line. Every text that can be accepted is shorter.
-// What it writes comes from `compile_whole`, whose contract states it for every text (`report`).
+// The program `rmform` of document 01: it reads the first 8,192 bytes of standard input and writes what is printed for them, the listing or
+// the line `refused`. The contract of `print_answer` states those bytes for every input (`Print` in crates/text/specs/Print.antt). Every text
+// that can be accepted is shorter than 8,192 bytes: it has at most 4,002 (the law `accepted-text-length` of the crate `table_texts`).
 use libc::STDIN_FILENO;
-use report::write_answer;
+use libc::STDOUT_FILENO;
+use text::print::Printed;
+use text::print::print_answer;
 
 fn main() {
-    let mut buffer = [0u8; 8192];
-    let length = io::read_full(STDIN_FILENO, &mut buffer);
-    write_answer(&buffer[..length]);
+    let mut input = [0u8; Printed::INPUT_BYTES];
+    let read = io::read_full(STDIN_FILENO, &mut input);
+    let printed = print_answer(&input[..read]);
+    let bytes = printed.bytes;
+    let length = printed.length;
+    io::write_all(STDOUT_FILENO, &bytes[..length]);
 }

@@ -23,7 +23,7 @@ use Rattle.text.specs.Lines.{headed, firstLine, laterLine}
 use Rattle.listings.specs.Listing.{tabbed, line, decimal, outputBytes}
 use Rattle.numbers.specs.Refusals.{Sized}
 use Rattle.text.specs.Accepted.{Table, Accepted}
-use Rattle.text.specs.Read.{Reading, given, ended, laterLines, outside, judgedFirst, allLines, reading}
+use Rattle.text.specs.Read.{Reading, given, ended, laterLines, judgedFirst, allLines, reading}
 use Rattle.text.proofs.read.Accepted.{getD-zeros}
 use Rattle.listings.proofs.Joined.{Plain, parts-fields, parts-lines}
 use Rattle.listings.proofs.Meaning.{plain-decimal, plain-outputs}
@@ -31,6 +31,7 @@ use Rattle.numbers.proofs.Shifts.{points-le}
 use Rattle.table_texts.specs.TableTexts.{pointLine, ifListed, pointLines, sizesLine, textWith, tableText, dashText}
 use Rattle.table_texts.proofs.Written.{oneDigit-decimal, mixed-decimal, mixed-dash, point-decimal, outputs-written}
 use Rattle.table_texts.proofs.PointLines.{pointLines-more}
+use Rattle.numbers.proofs.refusals.Judging.{sizes-accepted}
 
 -- ---- the words
 
@@ -143,7 +144,7 @@ module _ (z : Sizes) (f : ℕ → ℕ) (low : 2 ^ z .n ≤ 256) (small : (p : �
 lines-given : (z : Sizes) (t : List ℕ) → Accepted z t
     → linesFrom z 2 0 (replicate 256 0) (pointLines (z .m) (at t) (2 ^ z .n) ++ line (bytes "end") []) ≡ given z t
 lines-given z t g =
-    let low : 2 ^ z .n ≤ 256 = points-le (z .n) (g .sized .n-in .1) in
+    let low : 2 ^ z .n ≤ 256 = points-le (z .n) (g .sized .inputs .1) in
     let w = passed z (at t) low (g .table .small) (2 ^ z .n) (line (bytes "end") []) (omega arith) in
     w .follows ∙ end-passed z (w .number) (w .least) (w .table) ∙ ap (given z) (same-table (w .table) (w .filled))
   where
@@ -155,13 +156,9 @@ lines-given z t g =
           let l : 2 ^ z .n ≤ i = ltb-false i (2 ^ z .n) e in
           w .kept i l ∙ getD-zeros 256 i ∙ sym (g .table .rest i l)
 
-inside : (x : ℕ) → (1 ≤ x) × (x ≤ 8) → outside x ≡ false
-unfolding outside
-inside x h = rw (le-ltb x 1 (h .0), le-ltb 8 x (h .1))
-
-sizes-judged : (z : Sizes) → Sized z → judgedFirst (first.Table z) ≡ answer.Given z
+sizes-judged : (z : Sizes) → Sized (z .n) (z .m) (z .k) → judgedFirst (first.Table z) ≡ answer.Given z
 unfolding judgedFirst
-sizes-judged z g = rw (inside (z .n) (g .n-in), inside (z .m) (g .m-in), le-ltb 3 (z .k) (g .k-in .0), le-ltb (z .n) (z .k) (g .k-in .1))
+sizes-judged z g = rw (sizes-accepted (z .n) (z .m) (z .k) g)
 
 -- any characters that say k may stand for it
 pub text-accepted : (k : List ℕ) (z : Sizes) (t : List ℕ) → Plain k → mixed k ≡ Is (z .k) → Accepted z t → reading (textWith k z t) ≡ given z t
@@ -172,7 +169,7 @@ text-accepted k z t p e g =
     ap reading (append-assoc (sizesLine z k) (pointLines (z .m) (at t) (2 ^ z .n)) (line (bytes "end") []))
     ∙ rw (
       parts-lines (bytes "table") fs after plain-table (plain-decimal (z .n), (plain-decimal (z .m), (p, tt))),
-      sizes-said z k (omega (arith, g .sized .n-in)) (omega (arith, g .sized .m-in)) p e,
+      sizes-said z k (omega (arith, g .sized .inputs)) (omega (arith, g .sized .outputs)) p e,
       sizes-judged z (g .sized),
     )
     (lines-given z t g)
@@ -180,7 +177,7 @@ text-accepted k z t p e g =
 pub table-text-accepted : (z : Sizes) (t : List ℕ) → Accepted z t → reading (tableText z t) ≡ given z t
 unfolding tableText
 table-text-accepted z t g =
-    text-accepted (decimal (z .k)) z t (plain-decimal (z .k)) (mixed-decimal (z .k) (omega (arith, g .sized .k-in))) g
+    text-accepted (decimal (z .k)) z t (plain-decimal (z .k)) (mixed-decimal (z .k) (omega (arith, g .sized .mixed))) g
 
 pub dash-text-accepted : (z : Sizes) (t : List ℕ) → Accepted z t → z .k ≡ 1 → reading (dashText z t) ≡ given z t
 unfolding dashText

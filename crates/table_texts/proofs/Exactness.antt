@@ -25,8 +25,8 @@ use Rattle.text.specs.Fields.{mixed}
 use Rattle.text.specs.Lines.{firstLine, laterLine}
 use Rattle.listings.specs.Listing.{tabbed, line, decimal, outputBytes}
 use Rattle.text.specs.Accepted.{Accepted}
-use Rattle.text.specs.Read.{given, refused, ended, judgedLater, laterLines, outside, judgedFirst, opened, allLines, reading}
-use Rattle.text.proofs.read.Accepted.{no-refusal, unfinished-refused, refused-given, getD-zeros, first-sized, reading-accepted}
+use Rattle.text.specs.Read.{given, refused, ended, judgedLater, laterLines, judgedFirst, opened, allLines, reading}
+use Rattle.text.proofs.read.Accepted.{no-refusal, unfinished-refused, refused-given, getD-zeros, first-sized, reading-accepted, sizes-given}
 use Rattle.numbers.proofs.Shifts.{points-le}
 use Rattle.numbers.proofs.Tests.{both-left, both-right}
 use Rattle.table_texts.specs.TableTexts.{pointLine, pointLines, sizesLine, textWith, tableText, dashText}
@@ -34,6 +34,7 @@ use Rattle.table_texts.proofs.Acceptance.{table-text-accepted, dash-tex
 use Rattle.table_texts.proofs.FieldsRead.{mixed-read}
 use Rattle.table_texts.proofs.LinesRead.{separated, parts-joined, PointRead, point-line-read, end-read, sizes-read}
 use Rattle.table_texts.proofs.PointLines.{listed-some, pointLines-more, pointLines-ext, pointLines-zero}
+use Rattle.numbers.specs.Refusals.{sizesRefusal}
 
 -- ---- one line of a point
 
@@ -138,14 +139,7 @@ lines-read (l′ ∷ ls) z y number least t u l low g e =
 first-judged : (x : FirstLine) (z : Sizes) → judgedFirst x ≡ answer.Given z → x ≡ first.Table z
 unfolding judgedFirst
 first-judged first.Wrong z e = absurd (refused-given e)
-first-judged (first.Table y) z e = tested (outside (y .n)) (outside (y .m)) (ltb 3 (y .k) || ltb (y .n) (y .k)) e where
-  tested : (a b c : Bool)
-      → cond a (answer.Refused 2 1) (cond b (answer.Refused 3 1) (cond c (answer.Refused 4 1) (answer.Given y))) ≡ answer.Given z
-      → first.Table y ≡ first.Table z
-  tested true b c f = absurd (refused-given f)
-  tested false true c f = absurd (refused-given f)
-  tested false false true f = absurd (refused-given f)
-  tested false false false f = cc
+first-judged (first.Table y) z e = ap first.Table (sizes-given (sizesRefusal (y .n) (y .m) (y .k)) y z e .1)
 
 -- the characters that stand for k, and the text that is written with them
 pub record TextRead (s : List ℕ) (z : Sizes) (t : List ℕ) : Type 0 where
@@ -173,7 +167,7 @@ all-read l (l′ ∷ ls) z t e = judged (judgedFirst (firstLine l)) refl e where
   judged : (x : ReadAnswer) → judgedFirst (firstLine l) ≡ x → opened x (λ y. laterLines y 2 0 (replicate 256 0) l′ ls) ≡ given z t
       → TextRead (l ++ separated 10 (l′ ∷ ls)) z t
   judged (answer.Given y) says f =
-      let low : 2 ^ y .n ≤ 256 = points-le (y .n) (first-sized (firstLine l) y says .n-in .1) in
+      let low : 2 ^ y .n ≤ 256 = points-le (y .n) (first-sized (firstLine l) y says .inputs .1) in
       let sizes = sizes-read l y (first-judged (firstLine l) y says) in
       let lines = lines-read ls y z 2 0 (replicate 256 0) t l′ low (none-read y) f in
       subst (λ (x : Sizes). TextRead (l ++ separated 10 (l′ ∷ ls)) x t) (lines .sizes)

@@ -70,10 +70,10 @@ length-textWith k z t = simp length-append (omega arith)
 text-length : (k : List ℕ) (z : Sizes) (t : List ℕ) → Accepted z t → length k ≡ 1 → length (textWith k z t) ≤ 4002
 text-length k z t g h =
     let same : pointLines (z .m) (at t) 256 ≡ pointLines (z .m) (at t) (2 ^ z .n) =
-    pointLines-zero (z .m) (at t) (2 ^ z .n) 256 (g .table .rest) (points-le (z .n) (g .sized .n-in .1)) in
+    pointLines-zero (z .m) (at t) (2 ^ z .n) 256 (g .table .rest) (points-le (z .n) (g .sized .inputs .1)) in
     let points : length (pointLines (z .m) (at t) (2 ^ z .n)) ≤ 256 * (5 + z .m) + sumBelow 256 digitCount = rw same at (pointLines-le (z .m) (at t) 256) in
-    let first : length (sizesLine z k) ≡ 12 = length-sizesLine z k (omega (arith, g .sized .n-in)) (omega (arith, g .sized .m-in)) h in
-    omega (arith, length-textWith k z t, g .sized .m-in, digits-total)
+    let first : length (sizesLine z k) ≡ 12 = length-sizesLine z k (omega (arith, g .sized .inputs)) (omega (arith, g .sized .outputs)) h in
+    omega (arith, length-textWith k z t, g .sized .outputs, digits-total)
 
 length-dash : length (bytes "-") ≡ 1
 unfolding bytes
@@ -83,7 +83,7 @@ pub accepted-text-length : (s : List ℕ) (z : Sizes) (t : List ℕ) → reading
 unfolding tableText dashText
 accepted-text-length s z t e = go (reading-accepted s z t e) (accepted-text s z t e) where
   go : Accepted z t → (s ≡ tableText z t) ⊎ ((z .k ≡ 1) × (s ≡ dashText z t)) → length s ≤ 4002
-  go g (inl h) = rw h (text-length (decimal (z .k)) z t g (length-decimal (z .k) ∙ digitCount-one (z .k) (omega (arith, g .sized .k-in))))
+  go g (inl h) = rw h (text-length (decimal (z .k)) z t g (length-decimal (z .k) ∙ digitCount-one (z .k) (omega (arith, g .sized .mixed))))
   go g (inr h) = rw (h .1) (text-length (bytes "-") z t g length-dash)
 
 -- "the first 8,192 bytes of standard input as the whole text"
@@ -122,7 +122,7 @@ full-small p = go (ltb p 256) refl where
 full-accepted : (k : ℕ) → k ≤ 3 → Accepted (fullSizes k) fullTable
 full-accepted k h =
     record {
-      sized = record { n-in = (lit≤ tt, lit≤ tt); m-in = (lit≤ tt, lit≤ tt); k-in = (h, omega arith) };
+      sized = record { inputs = (lit≤ tt, lit≤ tt); outputs = (lit≤ tt, lit≤ tt); mixed = (h, omega arith) };
       table = record { long = length-replicate {A = ℕ} 256 255; small = full-small; rest = full-rest };
     }
 

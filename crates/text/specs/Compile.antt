@@ -5,14 +5,17 @@ use mathlib.Core.List.{List, _++_}
 use mathlib.Core.Path.{_≡_}
 use Prim.Native.Nat.{ℕ, _≤_}
 use lib.Dec.{leb}
-use lib.ListN.{length, take, drop, replicate}
+use lib.ListN.{length, take, drop}
 use Rattle.numbers.specs.Bytes.{at}
+use Rattle.expansions.specs.Members.{Member, Gives}
+use Rattle.expansions.specs.Costs.{products, literals}
 use Rattle.search.specs.Expansion.{answerExpansion}
 use Rattle.text.specs.declared.compile.Compiled.{Compiled}
 use Rattle.text.specs.declared.compile.Compiled.the-variants.{Written, Refused}
 use Rattle.text.specs.declared.sizes.Sizes.{Sizes}
 use Rattle.text.specs.Read.{Reading, given, refused, reading}
 use Rattle.listings.specs.Listing.{listing}
+use Rattle.listings.specs.Meaning.{IsListing}
 
 -- the listing of the answer for a table
 unfoldable pub answerListing : Sizes → List ℕ → List ℕ
@@ -35,9 +38,3 @@ pub record Compile (text before after : List ℕ) (r : Compiled) : Type 0 where
   pub answer : r ≡ compiled (reading text) (length before)
   pub bytes : after ≡ bufferAfter (reading text) before
   pub meaning : (z : Sizes) (table : List ℕ) (written : ℕ) → reading text ≡ given z table → r ≡ Written written → IsListing (z .n) (z .k) (at table) (take written after)
-
--- the text call in a buffer of 5,916 bytes, at first all zero: every text that is accepted is written
-pub record CompileWhole (text after : List ℕ) (r : Compiled) : Type 0 where
-  pub call : Compile text (replicate 5916 0) after r
-  pub whole : (z : Sizes) (table : List ℕ) → reading text ≡ given z table → r ≡ Written (length (answerListing z table))
-  pub within : (written : ℕ) → r ≡ Written written → written ≤ length after

@@ -2,11 +2,11 @@
 use mathlib.Core.Bool.{Bool, cond, _&&_, _||_, not}
 use mathlib.Core.List.{List, [], _∷_}
 use Prim.Native.Nat.{ℕ, _+_, _-_, _*_}
-use Prim.Native.String as string
 use lib.Dec.{leb, ltb, eqb}
 use lib.ListN.{length, getD}
 use Rattle.text.specs.declared.fields.Number.{Number}
 use Rattle.text.specs.declared.fields.Number.the-variants.{Is, Wrong}
+use Rattle.listings.specs.Parts.{bytes, same}
 
 -- what follows a number that is read, and what else is said where none is
 abbrev pub andThen : {A : Type 0} → Number → A → (ℕ → A) → A

@@ -4,3 +4,4 @@ pub mod Read
 pub mod Accepted
 pub mod Compile
 pub mod inner
+pub mod Print

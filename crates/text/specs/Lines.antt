@@ -9,7 +9,7 @@ use Rattle.text.specs.declared.lines.FirstLine.{FirstLine}
 use Rattle.text.specs.declared.lines.FirstLine.the-variants as first
 use Rattle.text.specs.declared.lines.LaterLine.{LaterLine}
 use Rattle.text.specs.declared.lines.LaterLine.the-variants as later
-use Rattle.listings.specs.Parts.{bytes, same}
+use Rattle.listings.specs.Parts.{bytes, same, field, fields}
 use Rattle.text.specs.Fields.{andThen, oneDigit, mixed, point, outputs}
 
 -- a line has so many fields, the first of them the given word

@@ -10,19 +10,13 @@ use search::search::search;
 ghost use mathlib.Core.Path.{_≡_};
 ghost use lib.ListN.{length};
 ghost use Rattle.text.specs.Read.{given};
-ghost use Rattle.text.specs.Compile.{compiled, bufferAfter, Compile, CompileWhole};
+ghost use Rattle.text.specs.Compile.{compiled, bufferAfter, Compile};
 ghost use Rattle.text.specs.Accepted.{Accepted};
 
 // The text call's answer: the length of the listing that was written, or declined with document 01's number and line.
 pub enum Compiled {
     Written { length: usize },
     Refused { number: usize, line: usize },
-}
-
-// A listing in a buffer of its own, 5,916 bytes, which holds every listing there is, with the text call's answer beside it.
-pub struct Listing {
-    pub bytes: [u8; 5916],
-    pub answer: Compiled,
 }
 
 // Minimises a table that was read, and writes the listing.
@@ -55,13 +49,4 @@ pub fn compile(text: &[u8], output: &mut [u8]) -> Compiled
         ReadAnswer::Given(sizes) => compile_table(sizes, &table, output),
         ReadAnswer::Refused { number, line } => Compiled::Refused { number, line },
     }
-}
-
-// The listing of a table text, or its refusal. The buffer is never too short, so a text that is accepted is always written.
-pub fn compile_whole(text: &[u8]) -> Listing
-    ensures { λ r. ⌜ CompileWhole (now (text .entry)) (r .bytes) (r .answer) ⌝ }
-{
-    let mut bytes = [0u8; 5916];
-    let answer = compile(text, &mut bytes);
-    Listing { bytes, answer }
 }

@@ -3,6 +3,7 @@ pub mod compile;
 mod cursor;
 mod fields;
 mod lines;
+pub mod print;
 pub mod read;
 pub mod sizes;
 mod write;

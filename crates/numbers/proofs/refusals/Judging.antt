@@ -63,3 +63,14 @@ unfolding sizesRefusal
 sizes-accepted n m k s =
     let t : TableSized n m = record { inputs = s .inputs; outputs = s .outputs } in
     rw (table-accepted n m t, le-leb k 3 (s .mixed .0), le-leb k n (s .mixed .1))
+
+-- a refusal of sizes is 2, 3 or 4
+pub sizes-most : (n m k : ℕ) → sizesRefusal n m k ≤ 4
+unfolding sizesRefusal tableRefusal
+sizes-most n m k = go (leb 1 n && leb n 8) (leb 1 m && leb m 8) (leb k 3 && leb k n)
+  where
+    go : (a b c : Bool) → orElse (unless a 2 (unless b 3 0)) (unless c 4 0) ≤ 4
+    go false b c = omega arith
+    go true false c = omega arith
+    go true true false = omega arith
+    go true true true = omega arith

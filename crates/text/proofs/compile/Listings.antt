@@ -1,13 +1,12 @@
 -- Demand 3 of the bytes that the text call writes: the listing of the answer is what `IsListing` says (`answer-listing`), and the text call
 -- leaves it at the front of the buffer (`compile-meaning`).
-use mathlib.Core.Path.{_≡_, refl, sym, ap, subst, _∙_}
+use mathlib.Core.Path.{_≡_, sym, ap, subst, _∙_}
 use mathlib.Core.Bool.{Bool, true, false, cond}
 use mathlib.Core.List.{List, _++_}
-use Prim.Native.Nat.{ℕ, _≤_}
+use Prim.Native.Nat.{ℕ}
 use native.Mathlib.Omega.{arith}
 use lib.Dec.{leb}
-use lib.ListN.{length, take, drop, replicate, length-append, length-drop, length-replicate}
-use borrow.Author.Tests.{le-leb, leb-true}
+use lib.ListN.{length, take, drop}
 use lib.Seq.{take-append-seam}
 use Rattle.numbers.specs.Bytes.{at}
 use Rattle.search.specs.Expansion.{answerExpansion}
@@ -19,32 +18,20 @@ use Rattle.text.specs.declared.compile.Compiled.{Compiled}
 use Rattle.text.specs.declared.compile.Compiled.the-variants.{Written, Refused}
 use Rattle.text.specs.Accepted.{Accepted}
 use Rattle.text.specs.Read.{Reading, given, refused, reading, standsFor}
-use Rattle.text.specs.Compile.{answerListing, compiled, bufferAfter, Compile, CompileWhole}
+use Rattle.text.specs.Compile.{answerListing, compiled, bufferAfter, Compile}
 use Rattle.listings.specs.Meaning.{IsListing}
 use Rattle.text.proofs.read.Accepted.{reading-accepted}
-use Rattle.listings.proofs.Meaning.{listing-products, listing-literals}
-use Rattle.listings.proofs.ListedAnswers.{answer-given, answer-products, answer-literals}
-use Rattle.listings.proofs.Longest.{listing-longest}
+use Rattle.listings.proofs.ListedAnswers.{answer-listed}
 
 -- ---- the listing of the answer
 
-pub answer-listing : (z : Sizes) (table : List ℕ) → Accepted z table → IsListing z (at table) (answerListing z table)
+pub answer-listing : (z : Sizes) (table : List ℕ) → Accepted z table → IsListing (z .n) (z .k) (at table) (answerListing z table)
 unfolding answerListing
 answer-listing z table a =
-    let n = z .n in
-    let m = z .m in
-    let k = z .k in
-    let e = answerExpansion n k (at table) in
-    let hn = a .sized .n-in .1 in
-    let minimal = answerExpansion-is n k (at table) hn (a .sized .k-in .1) in
-    let small = expansion-coefficients-lt n k (at table) hn m (a .sized .k-in .1) (λ p h. a .table .small p) in
-    record {
-      gives = answer-given n m k e (at table) hn (a .sized .m-in .1) (a .sized .k-in .0) minimal (λ t l. small t);
-      products-stated = answer-products n m k e (at table) hn (a .sized .m-in .1) (a .sized .k-in .0) minimal;
-      literals-stated = answer-literals n m k e (at table) hn (a .sized .m-in .1) (a .sized .k-in .0) minimal;
-      cheapest = λ M i φ c mem g.
-          rw (listing-products n m k e ∙ sym (minimal .products-counted), listing-literals n m k e ∙ sym (minimal .literals-counted)) (minimal .cheapest M i φ c mem g);
-    }
+    let s = a .sized in
+    let minimal = answerExpansion-is (z .n) (z .k) (at table) (s .inputs .1) (s .mixed .1) in
+    let small = expansion-coefficients-lt (z .n) (z .k) (at table) (s .inputs .1) (z .m) (s .mixed .1) (λ p h. a .table .small p) in
+    answer-listed (z .n) (z .m) (z .k) (answerExpansion (z .n) (z .k) (at table)) (at table) (s .inputs .1) (s .outputs .1) (s .mixed .0) minimal (λ t l. small t)
 
 -- ---- the text call
 
@@ -69,7 +56,7 @@ compile-meaning text before after r er ea =
       bytes = ea;
       meaning = λ z table written e w.
           let listed = written-listing z table before after written (sym w ∙ er ∙ ap (λ (x : Reading). compiled x (length before)) e) (ea ∙ ap (λ (x : Reading). bufferAfter x before) e) in
-          subst (IsListing z (at table)) (sym listed) (answer-listing z table (reading-accepted text z table e));
+          subst (IsListing (z .n) (z .k) (at table)) (sym listed) (answer-listing z table (reading-accepted text z table e));
     }
 
 -- by the reading call's answer
@@ -93,45 +80,3 @@ unfolding compiled bufferAfter
 compile-refused text table before r number line e s =
     let read = reads-refused r table number line (reading text) e s in
     compile-meaning text before before (Refused number line) (ap (λ (x : Reading). compiled x (length before)) (sym read)) (ap (λ (x : Reading). bufferAfter x before) (sym read))
-
--- ---- a buffer that holds every listing
-
-listing-within : (z : Sizes) (table : List ℕ) → Accepted z table → length (answerListing z table) ≤ 5916
-unfolding answerListing
-listing-within z table a =
-    listing-longest (z .n) (z .m) (z .k) (answerExpansion (z .n) (z .k) (at table)) (at table) (a .sized .n-in .1) (a .sized .m-in .1) (a .sized .k-in .0)
-    (answerExpansion-is (z .n) (z .k) (at table) (a .sized .n-in .1) (a .sized .k-in .1)) (a .sized .k-in .1)
-
-written-within : (x : Reading) (room written : ℕ) → Written written ≡ compiled x room → written ≤ room
-unfolding compiled
-written-within (given z table) room written e = go (leb (length (answerListing z table)) room) refl e
-  where
-    go : (b : Bool) → leb (length (answerListing z table)) room ≡ b → Written written ≡ cond b (Written (length (answerListing z table))) (Refused 10 0) → written ≤ room
-    go true l e = let same : written ≡ length (answerListing z table) = cc in omega (arith, leb-true (length (answerListing z table)) room l)
-    go false l e = let none : _≡_ {A = ℕ} 0 1 = cc in absurd (omega arith)
-written-within (refused number line) room written e = let none : _≡_ {A = ℕ} 0 1 = cc in absurd (omega arith)
-
-buffer-long : (x : Reading) (before : List ℕ) → length (bufferAfter x before) ≡ length before
-unfolding bufferAfter
-buffer-long (given z table) before = go (leb (length (answerListing z table)) (length before)) refl
-  where
-    l : List ℕ
-    l = answerListing z table
-
-    go : (b : Bool) → leb (length l) (length before) ≡ b → length (cond b (l ++ drop (length l) before) before) ≡ length before
-    go true e = omega (arith, length-append l (drop (length l) before), length-drop (length l) before, leb-true (length l) (length before) e)
-    go false e = refl
-buffer-long (refused number line) before = refl
-
-pub compile-whole : (text before after : List ℕ) (r : Compiled) → before ≡ replicate 5916 0 → Compile text before after r → CompileWhole text after r
-unfolding compiled
-compile-whole text before after r e c =
-    let room : length before ≡ 5916 = ap length e ∙ length-replicate {A = ℕ} 5916 0 in
-    record {
-      call = subst (λ (b : List ℕ). Compile text b after r) e c;
-      whole = λ z table g.
-          c .answer ∙ ap (λ (x : Reading). compiled x (length before)) g
-          ∙ rw (le-leb (length (answerListing z table)) (length before) (omega (arith, listing-within z table (reading-accepted text z table g))));
-      within = λ written w.
-          omega (arith, written-within (reading text) (length before) written (sym w ∙ c .answer), ap length (c .bytes), buffer-long (reading text) before);
-    }

@@ -1,6 +1,7 @@
 -- `judge_first` meets its contract. The returns follow the order of refusals in line 1.
 use borrow.Author.Needs.{needs}
 use Rattle.text.specs.Read.{judgedFirst}
+use Rattle.text.proofs.read.Judged.{sizes-refused, sizes-passed}
 use Rattle.text.proofs.read.judge_first.Statement.{statement}
 use Rattle.text.proofs.read.judge_first.Tie as tie
 
@@ -21,13 +22,12 @@ judge-sizes-requires : tie.Need-judge-sizes-requires
 judge-sizes-requires c κs = search needs
 
 returns-2 : tie.Need-returns-2
-returns-2 c =
-    let read = c .before .before .before in
-    sizes-refused _ _ _ (c .before .judge-sizes .ensures) (c .if1 .taken) ∙ sym (judged-sizes (c .before))
+unfolding judgedFirst
+returns-2 c = rw (← c .before .before .before .before .before .first-line .ensures, c .before .before .before .sizes .given .1) (sizes-refused _ _ _ (c .before .judge-sizes .ensures) (c .if1 .taken))
 
 returns-3 : tie.Need-returns-3
-returns-3 c =
-    sizes-passed _ _ _ (c .before .judge-sizes .ensures) (c .if1 .left) ∙ sym (judged-sizes (c .before))
+unfolding judgedFirst
+returns-3 c = rw (← c .before .before .before .before .before .first-line .ensures, c .before .before .before .sizes .given .1) (sizes-passed _ _ _ (c .before .judge-sizes .ensures) (c .if1 .left))
 
 pub judge-first-spec : {M : Type 1} → statement M
 judge-first-spec =

@@ -62,7 +62,7 @@ judge-lines-requires c κs =
     let limits = first-sized _ _ (sym (c .before .before .before .before .before .judge-first .ensures) ∙ c .before .before .before .sizes .given .1) in
     let at = c .before .next-line .ensures .0 in
     let line = second-line (c .before) in
-    (record { inside = omega (arith, before-end (c .before .before .before .before .before .before .before), at); counted = omega (arith, at) }, limits .n-in .1, limits .m-in .1)
+    (record { inside = omega (arith, before-end (c .before .before .before .before .before .before .before), at); counted = omega (arith, at) }, limits .inputs .1, limits .outputs .1)
 
 enum-known-number : tie.Need-enum-known-number
 enum-known-number c = search needs

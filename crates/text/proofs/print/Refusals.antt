@@ -1,0 +1,143 @@
+-- The refusal of a text: its number is 1 to 6, and its line is at least 1 and at most one more than the text has bytes (`reading-refused`).
+-- So the two numbers of the line `refused` that is printed have at most four digits, and the line says them back (`refusal-said`).
+use mathlib.Core.Bool.{Bool, true, false, cond, _&&_, _||_}
+use mathlib.Core.List.{List, [], _∷_, _++_, map, append-assoc, append-nil}
+use mathlib.Core.Path.{_≡_, sym, ap, _∙_}
+use Prim.Native.Nat.{ℕ, zero, suc, _+_, _^_, _<_, _≤_}
+use native.Mathlib.Omega.{arith}
+use lib.Dec.{eqb, leb, ltb, lit<}
+use lib.ListN.{length, set, replicate, length-append, length-take}
+use Rattle.text.specs.declared.lines.FirstLine.the-variants as first
+use Rattle.text.specs.declared.lines.FirstLine.{FirstLine}
+use Rattle.text.specs.declared.lines.LaterLine.the-variants.{On, End, Wrong}
+use Rattle.text.specs.declared.lines.LaterLine.{LaterLine}
+use Rattle.text.specs.declared.read.ReadAnswer.the-variants as answer
+use Rattle.text.specs.declared.sizes.Sizes.{Sizes}
+use Rattle.listings.specs.Parts.{withByte, parts, bytes}
+use Rattle.text.specs.Lines.{firstLine, laterLine}
+use Rattle.listings.specs.Listing.{tabbed, line, decimal}
+use Rattle.listings.specs.Meaning.{firstNumbers}
+use Rattle.text.specs.Read.{Reading, given, refused, unfinished, ended, judgedLater, laterLines, sizesJudged, judgedFirst, opened, allLines, reading}
+use Rattle.numbers.specs.Refusals.{sizesRefusal}
+use Rattle.numbers.proofs.refusals.Judging.{sizes-most}
+use Rattle.text.specs.Print.{judged, refusedLine}
+use Rattle.listings.proofs.Joined.{Plain, parts-fields, parts-lines}
+use Rattle.listings.proofs.Characters.{length-decimal, digitCount-in}
+use Rattle.listings.proofs.Lengths.{digitsOf-le, length-numbers}
+use Rattle.listings.proofs.Meaning.{plain-numbers, numbers-said}
+
+-- ---- the number and the line
+
+-- a refusal by 1 to 6, on a line from `least` to `most`
+abbrev RefusedIn : ℕ → ℕ → Reading → Type 0
+RefusedIn least most (given z table) = Unit
+RefusedIn least most (refused number l) = ((1 ≤ number) × (number ≤ 6)) × ((least ≤ l) × (l ≤ most))
+
+refused-widen : (a b c d : ℕ) (x : Reading) → c ≤ a → b ≤ d → RefusedIn a b x → RefusedIn c d x
+refused-widen a b c d (given z table) h g r = tt
+refused-widen a b c d (refused number l) h g r = (r .0, (omega arith, omega arith))
+
+unfinished-in : (l : List ℕ) (k : ℕ) → RefusedIn k k (unfinished l k)
+unfolding unfinished
+unfinished-in [] k = ((omega arith, omega arith), (omega arith, omega arith))
+unfinished-in (b ∷ l) k = ((omega arith, omega arith), (omega arith, omega arith))
+
+ended-in : (z : Sizes) (k : ℕ) (table l : List ℕ) (ls : List (List ℕ)) → RefusedIn k (k + 1) (ended z k table l ls)
+unfolding ended
+ended-in z k table [] [] = tt
+ended-in z k table [] (l ∷ ls) = ((omega arith, omega arith), (omega arith, omega arith))
+ended-in z k table (b ∷ l) ls = ((omega arith, omega arith), (omega arith, omega arith))
+
+-- from the line k on, with as many lines after it as stand in ls
+laterLines-in : (ls : List (List ℕ)) (z : Sizes) (k least : ℕ) (table l : List ℕ) → RefusedIn k (k + length ls) (laterLines z k least table l ls)
+unfolding laterLines
+laterLines-in [] z k least table l = refused-widen k k k (k + 0) (unfinished l k) (omega arith) (omega arith) (unfinished-in l k)
+laterLines-in (l′ ∷ ls) z k least table l =
+    judging (laterLine (z .m) l) (λ p t. laterLines-in ls z (k + 1) p t l′)
+  where
+    tested : (b : Bool) (x : Reading) → RefusedIn (k + 1) (k + 1 + length ls) x → RefusedIn k (k + suc (length ls)) (cond b x (refused 5 k))
+    tested true x ih = refused-widen (k + 1) (k + 1 + length ls) k (k + suc (length ls)) x (omega arith) (omega arith) ih
+    tested false x ih = ((omega arith, omega arith), (omega arith, omega arith))
+
+    judging : (x : LaterLine) → ((p : ℕ) (t : List ℕ) → RefusedIn (k + 1) (k + 1 + length ls) (laterLines z (k + 1) p t l′ ls))
+        → RefusedIn k (k + suc (length ls))
+        (judgedLater x z k least table (ended z k table l′ ls) (λ least table. laterLines z (k + 1) least table l′ ls))
+    judging (On p o) ih = tested (ltb p (2 ^ z .n) && leb least p) _ (ih (p + 1) (set table p o))
+    judging End ih = refused-widen k (k + 1) k (k + suc (length ls)) (ended z k table l′ ls) (omega arith) (omega arith) (ended-in z k table l′ ls)
+    judging Wrong ih = ((omega arith, omega arith), (omega arith, omega arith))
+
+-- what the first line leads to
+opened-in : (x : FirstLine) (next : Sizes → Reading) (most : ℕ) → 1 ≤ most → ((z : Sizes) → RefusedIn 2 most (next z))
+    → RefusedIn 1 most (opened (judgedFirst x) next)
+unfolding judgedFirst
+opened-in first.Wrong next most h ih = ((omega arith, omega arith), (omega arith, h))
+opened-in (first.Table z) next most h ih = by-sizes (sizesRefusal (z .n) (z .m) (z .k)) (sizes-most (z .n) (z .m) (z .k)) where
+  by-sizes : (x : ℕ) → x ≤ 4 → RefusedIn 1 most (opened (sizesJudged x z) next)
+  by-sizes zero g = refused-widen 2 most 1 most (next z) (omega arith) (omega arith) (ih z)
+  by-sizes (suc x) g = ((omega arith, omega arith), (omega arith, h))
+
+allLines-in : (l : List ℕ) (ls : List (List ℕ)) → RefusedIn 1 (length ls + 1) (allLines l ls)
+unfolding allLines
+allLines-in l [] = unfinished-in l 1
+allLines-in l (l′ ∷ ls) =
+    opened-in (firstLine l) _ (suc (length ls) + 1) (omega arith)
+    (λ z. refused-widen 2 (2 + length ls) 2 (suc (length ls) + 1) (laterLines z 2 0 (replicate 256 0) l′ ls) (omega arith) (omega arith) (laterLines-in ls z 2 0 (replicate 256 0) l′))
+
+others-le : (separator : ℕ) (s : List ℕ) → length (parts separator s .others) ≤ length s
+unfolding parts
+others-le separator [] = omega arith
+others-le separator (b ∷ s) = go (eqb b separator) (others-le separator s) where
+  go : (t : Bool) → length (parts separator s .others) ≤ length s → length (withByte t b (parts separator s) .others) ≤ suc (length s)
+  go true h = omega arith
+  go false h = omega arith
+
+reading-in : (s : List ℕ) → RefusedIn 1 (length s + 1) (reading s)
+unfolding reading
+reading-in s =
+    refused-widen 1 (length (parts 10 s .others) + 1) 1 (length s + 1) (allLines (parts 10 s .first) (parts 10 s .others)) (omega arith)
+    (omega (arith, others-le 10 s)) (allLines-in (parts 10 s .first) (parts 10 s .others))
+
+pub reading-refused : (s : List ℕ) (number l : ℕ) → reading s ≡ refused number l
+    → ((1 ≤ number) × (number ≤ 6)) × ((1 ≤ l) × (l ≤ length s + 1))
+reading-refused s number l e = rw e at (reading-in s)
+
+-- ---- the line `refused`
+
+plain-refused : Plain (bytes "refused")
+unfolding bytes
+plain-refused = (lit< tt, (lit< tt, (lit< tt, (lit< tt, (lit< tt, (lit< tt, (lit< tt, tt)))))))
+
+pub refused-line-says : (number l : ℕ) → number < 10000 → l < 10000 → firstNumbers (refusedLine number l) ≡ number ∷ l ∷ []
+unfolding firstNumbers refusedLine
+refused-line-says number l hn hl =
+    let xs : List ℕ = number ∷ l ∷ [] in
+    ap firstNumbers (sym (append-nil (line (bytes "refused") (map decimal xs))))
+    ∙ rw (
+      parts-lines (bytes "refused") (map decimal xs) [] plain-refused (plain-numbers xs),
+      parts-fields (bytes "refused") (map decimal xs) plain-refused (plain-numbers xs),
+    )
+    (numbers-said xs (hn, (hl, tt)))
+
+-- what is judged has at most 8,192 bytes, so the line that is printed for its refusal says the number and the line
+pub refusal-said : (input : List ℕ) (number l : ℕ) → reading (judged input) ≡ refused number l → firstNumbers (refusedLine number l) ≡ number ∷ l ∷ []
+refusal-said input number l e =
+    let bounds = reading-refused (judged input) number l e in
+    let few : length (judged input) ≤ 8192 = omega (arith, length-take 8192 input) in
+    refused-line-says number l (omega (arith, bounds .0 .1)) (omega (arith, bounds .1 .1))
+
+-- ---- how it is written, and how long it is
+
+pub decimal-le : (x : ℕ) → length (decimal x) ≤ 4
+decimal-le x = omega (arith, length-decimal x, digitCount-in x)
+
+pub refused-line-fields : (number l : ℕ)
+    → refusedLine number l ≡ bytes "refused" ++ (9 ∷ []) ++ decimal number ++ (9 ∷ []) ++ decimal l ++ (10 ∷ [])
+unfolding refusedLine line tabbed bytes
+refused-line-fields number l =
+    simp (append-assoc, append-nil) (ap (λ (v : List ℕ). bytes "refused" ++ 9 ∷ v) (append-assoc (decimal number) (9 ∷ decimal l) (10 ∷ [])))
+
+pub refused-line-le : (number l : ℕ) → length (refusedLine number l) ≤ 18
+unfolding refusedLine line bytes
+refused-line-le number l =
+    let xs : List ℕ = number ∷ l ∷ [] in
+    omega (arith, length-append (tabbed (map decimal xs)) (10 ∷ []), length-numbers xs, digitsOf-le xs)
