@@ -3,6 +3,7 @@
 
 pub mod c_search;
 pub mod calls;
+pub mod cases;
 pub mod class;
 pub mod evaluator;
 pub mod lent;

@@ -1,0 +1,169 @@
+/*
+ * The calls of Mipaldoz for programs in C and C++: both transforms, the minimising call, the reading call and the text call.
+ *
+ *     rt staticlib capi                                          writes target/staticlib/libcapi.a
+ *     cc -Iinclude program.c target/staticlib/libcapi.a          links it; no other library is needed
+ *
+ * docs/GUIDE.md says what a table text, a listing and the numbers n, m, k, M and i are, docs/SPECIFICATION.md gives the exact rules, and
+ * docs/CONTRACTS.md what is proved of each call. examples/compile.c is a whole program.
+ *
+ * Buffers. A buffer is passed as a pointer to its first byte and then its length in bytes. The caller sees to three things, which no call
+ * can check:
+ *   - the length is true: that many bytes may be read there and, where the pointer is not to const, written;
+ *   - no two buffers of one call overlap, and none overlaps `answer`;
+ *   - no pointer is null, also where the length is 0.
+ * Everything else is judged by the call: every number n, m, k and w, every length and every byte may be passed.
+ *
+ * Answers. Each call returns its answer in the lent array `answer` and writes all of it, whatever it held. answer[MIPALDOZ_NUMBER] is 0
+ * where the call was carried out; else it is the number of the refusal, answer[MIPALDOZ_LINE] is its line, and the rest is 0. Lines count
+ * from 1; the line is 0 where no text was lent, and for the refusals 7 to 10.
+ *
+ * Under a refusal no byte of a lent buffer changes. `answer` is the return value and not such a buffer: it changes.
+ *
+ * The calls take no memory from the heap, keep nothing from one call to the next, read and write no file, and end on every input. Several
+ * threads may call them at the same time, each with buffers of its own.
+ */
+#ifndef MIPALDOZ_H
+#define MIPALDOZ_H
+
+#include <stddef.h>
+#include <stdint.h>
+
+#ifdef __cplusplus
+extern "C" {
+#endif
+
+/* The limits. */
+#define MIPALDOZ_MOST_INPUTS 8        /* n is 1 to 8 */
+#define MIPALDOZ_MOST_OUTPUTS 8       /* m is 1 to 8 */
+#define MIPALDOZ_MOST_MIXED 3         /* k is 0 to 3, and at most n */
+#define MIPALDOZ_TABLE_BYTES 256      /* the table that the reading call fills; also 2^n at the largest n */
+#define MIPALDOZ_LONGEST_LISTING 5916 /* bytes: an output buffer of this length is never refused */
+#define MIPALDOZ_LONGEST_TEXT 4002    /* bytes: a longer text is never accepted */
+
+/* How many numbers the answer of each call has. */
+#define MIPALDOZ_FORWARD_ANSWER 2
+#define MIPALDOZ_BACKWARD_ANSWER 2
+#define MIPALDOZ_MINIMISE_ANSWER 6
+#define MIPALDOZ_READ_ANSWER 5
+#define MIPALDOZ_COMPILE_ANSWER 3
+
+/* Which number of an answer is which. */
+enum mipaldoz_answer {
+    /* of every answer */
+    MIPALDOZ_NUMBER = 0, /* 0, or the number of the refusal: enum mipaldoz_refusal */
+    MIPALDOZ_LINE = 1,   /* the refusal's line, or 0 */
+    /* of mipaldoz_minimise */
+    MIPALDOZ_MIXED = 2,    /* M, the set of the k mixed inputs, x1 at bit 0 */
+    MIPALDOZ_FIXED = 3,    /* i, the fixed polarity: an input outside M whose bit is set is complemented */
+    MIPALDOZ_PRODUCTS = 4, /* the number of products */
+    MIPALDOZ_LITERALS = 5, /* the number of literals in them */
+    /* of mipaldoz_read */
+    MIPALDOZ_INPUTS = 2,       /* n */
+    MIPALDOZ_OUTPUTS = 3,      /* m */
+    MIPALDOZ_MIXED_INPUTS = 4, /* k; 1 where the text has `-` */
+    /* of mipaldoz_compile */
+    MIPALDOZ_LENGTH = 2 /* the length of the listing, in bytes */
+};
+
+/* Why a call declines. */
+enum mipaldoz_refusal {
+    MIPALDOZ_CARRIED_OUT = 0,
+    MIPALDOZ_BAD_LINE = 1,     /* a line of the text breaks its grammar */
+    MIPALDOZ_BAD_INPUTS = 2,   /* n is not 1 to 8 */
+    MIPALDOZ_BAD_OUTPUTS = 3,  /* m is not 1 to 8 */
+    MIPALDOZ_BAD_MIXED = 4,    /* k is above 3 or above n */
+    MIPALDOZ_BAD_POINT = 5,    /* a point is 2^n or more, or not above the one before */
+    MIPALDOZ_BAD_END = 6,      /* the text stops where a line should begin and no `end` line has come, or bytes follow the `end` line */
+    MIPALDOZ_BAD_POLARITY = 7, /* w is 2^n or more */
+    MIPALDOZ_BAD_LENGTH = 8,   /* a buffer has another length than its call states */
+    MIPALDOZ_BAD_BYTE = 9,     /* a byte of the table or of the coefficients has a bit at m or above set */
+    MIPALDOZ_SHORT_OUTPUT = 10 /* the output buffer is shorter than the listing */
+};
+
+/*
+ * Takes a table and fills its Reed-Muller coefficients under the polarity w: byte t holds the coefficient of term t, bit o for output o.
+ *
+ *   n, m, w        inputs, outputs, and the polarity: an input whose bit is set is complemented, x1 at bit 0
+ *   table          2^n bytes: bit o of byte p is output o at point p, whose bit 0 is x1; bits m to 7 are 0
+ *   coefficients   2^n bytes, all filled; bits m to 7 are 0
+ *   answer         number, line
+ *
+ * Refusals, the first that applies, with line 0: 2 (n), 3 (m), 7 (w), 8 (the length of `table` or of `coefficients`), 9 (a byte of `table`).
+ */
+void mipaldoz_forward(size_t n, size_t m, size_t w,
+                      const uint8_t *table, size_t table_length,
+                      uint8_t *coefficients, size_t coefficients_length,
+                      uint64_t answer[MIPALDOZ_FORWARD_ANSWER]);
+
+/*
+ * Takes coefficients under the polarity w and fills the table that they give. It is the inverse of mipaldoz_forward under the same w.
+ *
+ *   n, m, w        as above
+ *   coefficients   2^n bytes; bits m to 7 are 0
+ *   table          2^n bytes, all filled; bits m to 7 are 0
+ *   answer         number, line
+ *
+ * Refusals, the first that applies, with line 0: 2 (n), 3 (m), 7 (w), 8 (the length of `coefficients` or of `table`), 9 (a byte of
+ * `coefficients`).
+ */
+void mipaldoz_backward(size_t n, size_t m, size_t w,
+                       const uint8_t *coefficients, size_t coefficients_length,
+                       uint8_t *table, size_t table_length,
+                       uint64_t answer[MIPALDOZ_BACKWARD_ANSWER]);
+
+/*
+ * Takes a table and finds the member of the class with k mixed inputs that gives it with fewest products, then fewest literals, then least
+ * M, then least i, then in each block the least block polarity.
+ *
+ *   n, m, k        inputs, outputs, mixed inputs
+ *   table          2^n bytes: bit o of byte p is output o at point p, whose bit 0 is x1; bits m to 7 are 0
+ *   coefficients   2^n bytes, all filled: byte t holds the coefficient of term t, 0 where t is no product
+ *   blocks         2^(n - k) bytes, all filled: byte j is the polarity of block j over the inputs of M. Blocks are numbered by the bits at
+ *                  the inputs outside M, closed up, lowest first; a block polarity has the bits at the inputs of M, closed up likewise
+ *   answer         number, line, M, i, products, literals
+ *
+ * Refusals, the first that applies, with line 0: 2 (n), 3 (m), 4 (k), 8 (the length of `table`, `coefficients` or `blocks`), 9 (a byte of
+ * `table`).
+ */
+void mipaldoz_minimise(size_t n, size_t m, size_t k,
+                       const uint8_t *table, size_t table_length,
+                       uint8_t *coefficients, size_t coefficients_length,
+                       uint8_t *blocks, size_t blocks_length,
+                       uint64_t answer[MIPALDOZ_MINIMISE_ANSWER]);
+
+/*
+ * Reads a table text and fills its table.
+ *
+ *   text           any bytes, any length; no zero byte ends it
+ *   table          256 bytes (MIPALDOZ_TABLE_BYTES) whatever n is, all filled: the table, then 0 from 2^n on
+ *   answer         number, line, n, m, k
+ *
+ * Refusals: first the text is judged line by line, and its first bad line is the line of the refusal. On line 1 the order is 1, 2, 3, 4; on
+ * a later line 1 comes before 5. The line of 6 is the line that was expected, or the one after `end`. A text that is accepted is then
+ * refused by 8, line 0, where `table` has another length.
+ */
+void mipaldoz_read(const uint8_t *text, size_t text_length,
+                   uint8_t *table, size_t table_length,
+                   uint64_t answer[MIPALDOZ_READ_ANSWER]);
+
+/*
+ * Reads a table text, finds the cheapest expansion as mipaldoz_minimise does, and writes its listing into the front of `output`. Bytes past
+ * the listing keep what they held, and no zero byte is written after it.
+ *
+ *   text           any bytes, any length; no zero byte ends it
+ *   output         as long as the listing or longer; MIPALDOZ_LONGEST_LISTING bytes are enough for every text
+ *   answer         number, line, the length of the listing
+ *
+ * Refusals: the text as in mipaldoz_read, 1 to 6 with the line. A text that is accepted is then refused by 10, line 0, where `output` is
+ * shorter than its listing; a length of exactly the listing's is enough.
+ */
+void mipaldoz_compile(const uint8_t *text, size_t text_length,
+                      uint8_t *output, size_t output_length,
+                      uint64_t answer[MIPALDOZ_COMPILE_ANSWER]);
+
+#ifdef __cplusplus
+}
+#endif
+
+#endif

@@ -1,0 +1,65 @@
+//! The cases of the program `cases`: what stands in its `stdin`, where each text follows a line with its
+//! length in decimal digits, and in its `stdout`, with the listing of each text or its line `refused`,
+//! number, line. Both come from the evaluator.
+
+use crate::marked::{ACCEPTED, DESIGNS, Marked, REFUSED, bytes};
+use crate::seeded::Seeded;
+use crate::seeded::tables::{any_table, longest_listing_table, random_table};
+use crate::seeded::texts::{damaged_text, sound_text};
+use crate::text::{Design, printed};
+
+/// The two files of the program, and how many texts they hold.
+pub struct Cases {
+    pub texts: usize,
+    pub stdin: Vec<u8>,
+    pub stdout: Vec<u8>,
+}
+
+impl Cases {
+    /// The cases that the evaluator writes, the same in every run.
+    pub fn written() -> Self {
+        let mut seeded = Seeded::new(71);
+        let texts = [marked_texts(), sound_texts(&mut seeded), damaged_texts(&mut seeded)].concat();
+        let framed =
+            |text: &Vec<u8>| [format!("{}\n", text.len()).into_bytes(), text.clone()].concat();
+        Cases {
+            texts: texts.len(),
+            stdin: texts.iter().flat_map(framed).collect(),
+            stdout: texts.iter().flat_map(|text| printed(text)).collect(),
+        }
+    }
+}
+
+fn text_of(n: usize, m: usize, k: usize, table: Vec<u8>) -> Vec<u8> {
+    Design { n, m, k, table }.text()
+}
+
+/// The texts whose answers are written down by hand.
+fn marked_texts() -> Vec<Vec<u8>> {
+    let accepted = ACCEPTED.iter().map(|(text, _)| bytes(text));
+    let refused = REFUSED.iter().map(|(text, _, _)| bytes(text));
+    let design = |&Marked { n, m, k, table, .. }: &Marked| text_of(n, m, k, table.to_vec());
+    accepted.chain(refused).chain(DESIGNS.iter().map(design)).collect()
+}
+
+/// A text for every n, m and k. One design of eight inputs is drawn at every bit.
+fn sound_texts(seeded: &mut Seeded) -> Vec<Vec<u8>> {
+    let mut texts = vec![text_of(8, 8, 3, longest_listing_table())];
+    for n in 1..=8usize {
+        for k in 0..=n.min(3) {
+            for m in 1..=8 {
+                texts.push(text_of(n, m, k, any_table(seeded, n, m)));
+            }
+        }
+    }
+    texts.push(text_of(8, 8, 3, random_table(seeded, 8, 8)));
+    texts
+}
+
+fn damaged_texts(seeded: &mut Seeded) -> Vec<Vec<u8>> {
+    let damaged = |_| {
+        let (_, text) = sound_text(seeded, 4);
+        damaged_text(seeded, &text)
+    };
+    (0..250).map(damaged).collect()
+}

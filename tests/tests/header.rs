@@ -1,0 +1,96 @@
+//! The C header `include/mipaldoz.h`: its constants are the ones that the calls and the evaluator have, and
+//! its declarations are those of the functions that `crates/capi` exports.
+
+use outside_cases::calls::{CompileAnswer, MinimiseAnswer, ReadAnswer, TransformAnswer};
+use outside_cases::seeded::tables::longest_listing_table;
+use outside_cases::text::{Design, printed};
+use std::collections::{BTreeMap, BTreeSet};
+use std::fs::{read_dir, read_to_string};
+use std::path::{Path, PathBuf};
+
+fn repository() -> PathBuf {
+    Path::new(env!("CARGO_MANIFEST_DIR")).join("..")
+}
+
+fn header() -> String {
+    read_to_string(repository().join("include/mipaldoz.h")).expect("the header is there")
+}
+
+/// The constants of the header: `#define NAME NUMBER`, and in an enum `NAME = NUMBER`.
+fn constants(header: &str) -> BTreeMap<String, usize> {
+    let constant = |line: &str| {
+        let line = line.trim();
+        let line = line.strip_prefix("#define ").unwrap_or(line).replace([',', '='], " ");
+        let mut words = line.split_whitespace();
+        let name = words.next().filter(|name| name.starts_with("MIPALDOZ_"))?;
+        Some((name.to_string(), words.next()?.parse().ok()?))
+    };
+    header.lines().filter_map(constant).collect()
+}
+
+/// The functions that a text declares after `start`: of each its name and its parameters.
+fn functions<'a>(text: &'a str, start: &str) -> Vec<(&'a str, Vec<String>)> {
+    let function = |rest: &'a str| {
+        let (name, parameters) = rest.split_once(')')?.0.split_once('(')?;
+        let parameters = parameters.split(',').map(str::trim).filter(|one| !one.is_empty());
+        Some((name, parameters.map(str::to_string).collect()))
+    };
+    text.split(start).skip(1).filter_map(function).collect()
+}
+
+/// The parameters in C of a parameter in Rattle.
+fn in_c(parameter: &str) -> Vec<String> {
+    let (name, kind) = parameter.split_once(": ").expect("a parameter has a type");
+    let buffer = |kind| vec![format!("{kind} *{name}"), format!("size_t {name}_length")];
+    match kind {
+        "usize" => vec![format!("size_t {name}")],
+        "&[u8]" => buffer("const uint8_t"),
+        "&mut [u8]" => buffer("uint8_t"),
+        _ => {
+            let places = kind.strip_prefix("&mut [u64; ").expect("a type that is passed to C");
+            vec![format!("uint64_t {name}[{places}")]
+        }
+    }
+}
+
+#[test]
+fn declarations_are_those_of_the_exported_functions() {
+    let sources = read_dir(repository().join("crates/capi/src")).expect("the sources are there");
+    let mut exported = BTreeSet::new();
+    for source in sources {
+        let text = read_to_string(source.expect("an entry").path()).expect("a source is a text");
+        for (name, parameters) in functions(&text, "pub extern \"C\" fn ") {
+            let parameters: Vec<String> = parameters.iter().flat_map(|one| in_c(one)).collect();
+            exported.insert((name.to_string(), parameters));
+        }
+    }
+    let mut header = header();
+    for (name, number) in constants(&header) {
+        header = header.replace(&format!("[{name}]"), &format!("[{number}]"));
+    }
+    let declared = functions(&header, "\nvoid ");
+    let declared = declared.into_iter().map(|(name, parameters)| (name.to_string(), parameters));
+    assert_eq!(declared.collect::<BTreeSet<_>>(), exported);
+    assert!(exported.len() >= 5, "{} functions", exported.len());
+}
+
+#[test]
+fn limits_and_lengths() {
+    let constants = constants(&header());
+    let longest = Design { n: 8, m: 8, k: 3, table: longest_listing_table() }.text();
+    for (name, number) in [
+        ("MOST_INPUTS", 8),
+        ("MOST_OUTPUTS", 8),
+        ("MOST_MIXED", 3),
+        ("TABLE_BYTES", 256),
+        ("LONGEST_LISTING", printed(&longest).len()),
+        ("LONGEST_TEXT", longest.len()),
+        ("FORWARD_ANSWER", TransformAnswer::default().len()),
+        ("BACKWARD_ANSWER", TransformAnswer::default().len()),
+        ("MINIMISE_ANSWER", MinimiseAnswer::default().len()),
+        ("READ_ANSWER", ReadAnswer::default().len()),
+        ("COMPILE_ANSWER", CompileAnswer::default().len()),
+    ] {
+        assert_eq!(constants.get(&format!("MIPALDOZ_{name}")), Some(&number), "{name}");
+    }
+}
