@@ -123,7 +123,7 @@ lines-table (l′ ∷ ls) z y line least t u l g e =
 
 -- ---- the first line, and the text
 
-refused-given : {number line : ℕ} {z : Sizes} → answer.Refused number line ≡ answer.Given z → ⊥
+pub refused-given : {number line : ℕ} {z : Sizes} → answer.Refused number line ≡ answer.Given z → ⊥
 refused-given e = let z : _≡_ {A = ℕ} 0 1 = cc in omega arith
 
 -- what line 1 says where its sizes are not refused
