@@ -14,7 +14,8 @@ use Rattle.numbers.proofs.Tests.{only-closed}
 use Rattle.algebra.proofs.Value.{value-ext}
 use Rattle.expansions.specs.Split.{gather, outside, join}
 use Rattle.expansions.specs.Members.{block, Member, Gives}
-use Rattle.expansions.specs.Costs.{products, literals, charge}
+use Rattle.expansions.specs.Costs.{products, literals}
+use Rattle.expansions.proofs.Costs.{charge, charge-parts, charge-member, literals-lt}
 use Rattle.expansions.specs.Least.{LeastThen}
 use Rattle.expansions.specs.Answers.{NotAfter, IsAnswer, Minimal, blockFunction, memberCoefficient, blockCharge, leastPolarity, pairCharge, validPair, leastPair}
 use Rattle.expansions.specs.Answers.{answerPair, answerMixed, answerFixed, answerPolarity, answerCoefficient}
@@ -23,7 +24,6 @@ use Rattle.expansions.proofs.Masks.{valid-from, valid-size, valid-clear
 use Rattle.expansions.proofs.Least.{then-le, then-rest, then-map, then-antisym, then-digits, IsFirst}
 use Rattle.expansions.proofs.Blocks.{block-lt, member-gives, member-unique, member-lt, member-ext}
 use Rattle.expansions.proofs.Lowest.{lowest-member}
-use Rattle.expansions.proofs.Costs.{charge-parts, charge-member, literals-lt}
 use Rattle.expansions.proofs.Minimal.{polarity-first, pair-first, pair-minimal}
 
 -- ---- places past the last

@@ -11,11 +11,15 @@ use Rattle.numbers.specs.Sums.{foldBelow, sumBelow}
 use Rattle.algebra.specs.Coefficients.{coefficient}
 use Rattle.numbers.proofs.Sums.{fold-ext, fold-map, fold-op, fold-split}
 use Rattle.expansions.specs.Members.{block, place, Member, Gives}
-use Rattle.expansions.specs.Costs.{counted, products, literals, weight, charge}
+use Rattle.expansions.specs.Costs.{counted, products, literals, weight}
 use Rattle.expansions.specs.Answers.{blockFunction, blockCharge, memberCoefficient}
 use Rattle.expansions.proofs.Split.{ones-others, sums}
 use Rattle.expansions.proofs.Counted.{counted-le, counted-weight}
 use Rattle.expansions.proofs.Blocks.{ones-digit, ones-parts, member-unique}
+
+-- the products' weights, summed: products * 4096 + literals (`charge-parts`)
+unfoldable pub charge : ℕ → (ℕ → ℕ) → ℕ
+charge n c = sumBelow (2 ^ n) (λ t. counted (c t) (weight (ones t)))
 
 -- ---- sums of counted numbers
 

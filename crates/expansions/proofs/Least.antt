@@ -11,7 +11,8 @@ use borrow.Author.Tests.{lt-ltb, le-ltb}
 use lib.Arith.{digits-lt}
 use lib.Dec.{T, ltb, ltb→lt, nltb→le}
 use Rattle.numbers.specs.Sums.{foldBelow, sumBelow}
-use Rattle.expansions.specs.Least.{LeastThen, Best, nothing, best, better, firstLeast, chosen, Leading}
+use Rattle.expansions.specs.Least.{LeastThen, Best, nothing, best, better, firstLeast, chosen}
+use Rattle.expansions.specs.inner.Leading.{Leading}
 
 -- below N + 1: below N, or N
 pub below-one-more : (N : ℕ) (P : ℕ → Type 0) → ((i : ℕ) → i < N → P i) → P N → (i : ℕ) → i < suc N → P i

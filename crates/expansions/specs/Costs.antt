@@ -19,7 +19,3 @@ literals n c = sumBelow (2 ^ n) (λ t. counted (c t) (ones t))
 -- what a product of l literals weighs: "fewest products, then fewest literals", of which there are fewer than 4,096, as one number
 unfoldable pub weight : ℕ → ℕ
 weight l = 4096 + l
-
--- the products' weights, summed: products * 4096 + literals (proofs/Costs, `charge-parts`)
-unfoldable pub charge : ℕ → (ℕ → ℕ) → ℕ
-charge n c = sumBelow (2 ^ n) (λ t. counted (c t) (weight (ones t)))

@@ -29,8 +29,3 @@ firstLeast (suc N) valid charge = better charge (valid N) (firstLeast N valid ch
 unfoldable pub chosen : Best → ℕ
 chosen nothing = 0
 chosen (best b) = b
-
--- c and i are the charge and the index of the best so far; where there is none, c is `top`, which is above every charge
-abbrev pub Leading : ℕ → (ℕ → ℕ) → Best → (c i : ℕ) → Type 0
-Leading top charge nothing c i = c ≡ top
-Leading top charge (best b) c i = (i ≡ b) × (c ≡ charge b)

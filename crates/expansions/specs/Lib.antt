@@ -5,3 +5,4 @@ pub mod Least
 pub mod Answers
 pub mod BlockTable
 pub mod Charges
+pub mod inner

@@ -5,7 +5,8 @@ ghost use Prim.Native.Nat.{_≤_};
 ghost use lib.ListN.{length};
 ghost use Rattle.numbers.specs.Bytes.{at, tabulate};
 ghost use Rattle.search.specs.Calls.{minimiseRefusal, Minimise};
-use crate::search::search;
+use crate::answer::find_answer;
+use crate::expansion::Expansion;
 use numbers::refusals::judge_sizes;
 use numbers::refusals::within_outputs;
 
@@ -54,7 +55,7 @@ fn first_refusal(
 }
 
 // Copies the first places of a record's array into a lent buffer that has no more places.
-fn copy_places(places: &[u8; 256], lent: &mut [u8])
+fn copy_places(places: &[u8; Expansion::PLACES], lent: &mut [u8])
     requires { ⌜ length (now lent) ≤ 256 ⌝ }
     ensures { λ r. ⌜ now (lent .exit) ≡ tabulate (length (now (lent .entry))) (at (now (places .entry))) ⌝ }
 {
@@ -82,7 +83,7 @@ pub fn minimise(
     if number != 0 {
         return Minimised::Refused { number, line: 0 };
     }
-    let found = search(n, m, k, table);
+    let found = find_answer(n, m, k, table);
     let places = found.coefficients;
     copy_places(&places, coefficients);
     let polarities = found.blocks;

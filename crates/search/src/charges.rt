@@ -49,27 +49,27 @@ pub struct Cheapest {
 }
 
 // Adds the terms of one more output, whose block function is g, to those that some output has, for each of the eight polarities.
-fn add_output(blocks: &[u8; 2048], g: u8, used: &mut [u8; 8])
-    requires { ⌜ (now blocks ≡ blockTable) × (length (now used) ≡ 8) ⌝ }
+fn add_output(entries: &[u8; 2048], g: u8, used: &mut [u8; 8])
+    requires { ⌜ (now entries ≡ blockTable) × (length (now used) ≡ 8) ⌝ }
     ensures { λ _. ⌜ now (used .exit) ≡ tabulate 8 (λ φ. bitOr (at (now (used .entry)) φ) (entry g φ)) ⌝ }
 {
     let row = g as usize * 8;
     let mut phi: usize = 0;
     while phi < 8 {
-        used[phi] = used[phi] | blocks[row + phi];
+        used[phi] = used[phi] | entries[row + phi];
         phi += 1;
     }
 }
 
 // The terms that some output has in block j, for each of the eight polarities, from the block functions.
-pub fn used_terms(blocks: &[u8; 2048], m: usize, r: usize, functions: &[u8], j: usize) -> [u8; 8]
-    requires { ⌜ (now blocks ≡ blockTable) × (m ≤ 8) × (r ≤ 8) × (j < 2 ^ r) × (length (now functions) ≡ m * 2 ^ r) ⌝ }
+pub fn used_terms(entries: &[u8; 2048], m: usize, r: usize, functions: &[u8], j: usize) -> [u8; 8]
+    requires { ⌜ (now entries ≡ blockTable) × (m ≤ 8) × (r ≤ 8) × (j < 2 ^ r) × (length (now functions) ≡ m * 2 ^ r) ⌝ }
     ensures { λ u. ⌜ u ≡ tabulate 8 (usedAt m r (at (now (functions .entry))) j) ⌝ }
 {
     let mut used = [0u8; 8];
     let mut o: usize = 0;
     while o < m {
-        add_output(blocks, functions[(o << r) + j], &mut used);
+        add_output(entries, functions[(o << r) + j], &mut used);
         o += 1;
     }
     used
@@ -102,7 +102,7 @@ pub fn least_polarity(charges: &[u32; 256], k: usize, more: u32, used: [u8; 8]) 
 
 // The first least polarity of block j, from the block functions.
 pub fn cheapest_block(
-    blocks: &[u8; 2048],
+    entries: &[u8; 2048],
     charges: &[u32; 256],
     m: usize,
     r: usize,
@@ -110,10 +110,10 @@ pub fn cheapest_block(
     functions: &[u8],
     j: usize,
 ) -> Cheapest
-    requires { ⌜ (now blocks ≡ blockTable) × (now charges ≡ tabulate 256 byteCharge) ⌝ }
+    requires { ⌜ (now entries ≡ blockTable) × (now charges ≡ tabulate 256 byteCharge) ⌝ }
     requires { ⌜ (m ≤ 8) × (r ≤ 8) × (k ≤ 3) × (j < 2 ^ r) × (length (now functions) ≡ m * 2 ^ r) ⌝ }
     ensures { λ c. ⌜ IsCheapest k (λ φ. usedCharge (ones j) (usedAt m r (at (now (functions .entry))) j φ)) c ⌝ }
 {
-    let used = used_terms(blocks, m, r, functions, j);
+    let used = used_terms(entries, m, r, functions, j);
     least_polarity(charges, k, ones_in(r, j) as u32, used)
 }

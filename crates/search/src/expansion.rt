@@ -17,16 +17,16 @@ pub struct Expansion {
 
 impl Expansion {
     // The most inputs a table has: n is 1 to 8.
-    pub const MOST_INPUTS: usize = 8;
+    pub const MOST_INPUTS: usize = numbers::refusals::MOST_INPUTS;
 
     // The most outputs: m is 1 to 8.
-    pub const MOST_OUTPUTS: usize = 8;
+    pub const MOST_OUTPUTS: usize = numbers::refusals::MOST_OUTPUTS;
 
     // The most mixed inputs: k is 0 to 3, and at most n.
-    pub const MOST_MIXED: usize = 3;
+    pub const MOST_MIXED: usize = numbers::refusals::MOST_MIXED;
 
-    // The coefficient places, one for each term of eight inputs; there are as many for the block polarities.
-    pub const PLACES: usize = 256;
+    // The coefficient places, one for each term of as many inputs as there can be; there are as many for the block polarities.
+    pub const PLACES: usize = 1 << Expansion::MOST_INPUTS;
 
     // The expansion with no product, whose mixed set is the k lowest inputs. A k above 8 is read as 8, so that the set stays
     // within the eight inputs; nothing is refused.

@@ -22,14 +22,14 @@ pub struct Leader {
 
 // What a pair costs, from its block functions: the sum over the blocks of what each costs under its first least polarity.
 pub fn pair_charge(
-    blocks: &[u8; 2048],
+    entries: &[u8; 2048],
     charges: &[u32; 256],
     n: usize,
     m: usize,
     k: usize,
     functions: &[u8],
 ) -> u32
-    requires { ⌜ (now blocks ≡ blockTable) × (now charges ≡ tabulate 256 byteCharge) ⌝ }
+    requires { ⌜ (now entries ≡ blockTable) × (now charges ≡ tabulate 256 byteCharge) ⌝ }
     requires { ⌜ Limits n m k ⌝ }
     requires { ⌜ length (now functions) ≡ m * 2 ^ (n - k) ⌝ }
     ensures { λ c. ⌜ c ≡ pairCharge n k (λ j φ. usedCharge (ones j) (usedAt m (n - k) (at (now (functions .entry))) j φ)) ⌝ }
@@ -39,7 +39,7 @@ pub fn pair_charge(
     let mut sum: u32 = 0;
     let mut j: usize = 0;
     while j < size {
-        let least = cheapest_block(blocks, charges, m, r, k, functions, j);
+        let least = cheapest_block(entries, charges, m, r, k, functions, j);
         sum += least.charge;
         j += 1;
     }
@@ -48,7 +48,7 @@ pub fn pair_charge(
 
 // The leader once the pair of `mixed` and `fixed` has been tried, where `mixed` has k inputs; a pair of equal charge does not displace it.
 fn try_fixed(
-    blocks: &[u8; 2048],
+    entries: &[u8; 2048],
     charges: &[u32; 256],
     n: usize,
     m: usize,
@@ -60,7 +60,7 @@ fn try_fixed(
     functions: &mut [u8],
     leader: Leader,
 ) -> Leader
-    requires { ⌜ (now blocks ≡ blockTable) × (now charges ≡ tabulate 256 byteCharge) ⌝ }
+    requires { ⌜ (now entries ≡ blockTable) × (now charges ≡ tabulate 256 byteCharge) ⌝ }
     requires { ⌜ Limits n m k ⌝ }
     requires { ⌜ Tried n m k mixed (now table) (now planes) (length (now functions)) ⌝ }
     requires { ⌜ (fixed < 2 ^ n) × Leads n k (at (now table)) (mixed * 2 ^ n + fixed) leader ⌝ }
@@ -70,7 +70,7 @@ fn try_fixed(
         return leader;
     }
     expand_planes(n, m, k, mixed, fixed, table, planes, functions);
-    let charge = pair_charge(blocks, charges, n, m, k, functions);
+    let charge = pair_charge(entries, charges, n, m, k, functions);
     if charge < leader.charge {
         return Leader {
             charge,
@@ -82,7 +82,7 @@ fn try_fixed(
 
 // The leader once every i has been tried with `mixed`, which has k inputs. `places`, `planes` and `functions` are room to work in.
 fn try_mixed(
-    blocks: &[u8; 2048],
+    entries: &[u8; 2048],
     charges: &[u32; 256],
     n: usize,
     m: usize,
@@ -94,7 +94,7 @@ fn try_mixed(
     functions: &mut [u8],
     leader: Leader,
 ) -> Leader
-    requires { ⌜ (now blocks ≡ blockTable) × (now charges ≡ tabulate 256 byteCharge) ⌝ }
+    requires { ⌜ (now entries ≡ blockTable) × (now charges ≡ tabulate 256 byteCharge) ⌝ }
     requires { ⌜ Limits n m k ⌝ }
     requires { ⌜ Given n m (now table) ⌝ }
     requires { ⌜ Room n m k (length (now places)) (length (now planes)) (length (now functions)) ⌝ }
@@ -107,7 +107,7 @@ fn try_mixed(
     let mut fixed: usize = 0;
     while fixed < all {
         let next = try_fixed(
-            blocks,
+            entries,
             charges,
             n,
             m,
@@ -127,7 +127,7 @@ fn try_mixed(
 
 // The leader once every i has been tried with `mixed`, if it has k inputs; one with another number of inputs has no pair.
 fn try_any(
-    blocks: &[u8; 2048],
+    entries: &[u8; 2048],
     charges: &[u32; 256],
     n: usize,
     m: usize,
@@ -139,7 +139,7 @@ fn try_any(
     functions: &mut [u8],
     leader: Leader,
 ) -> Leader
-    requires { ⌜ (now blocks ≡ blockTable) × (now charges ≡ tabulate 256 byteCharge) ⌝ }
+    requires { ⌜ (now entries ≡ blockTable) × (now charges ≡ tabulate 256 byteCharge) ⌝ }
     requires { ⌜ Limits n m k ⌝ }
     requires { ⌜ Given n m (now table) ⌝ }
     requires { ⌜ Room n m k (length (now places)) (length (now planes)) (length (now functions)) ⌝ }
@@ -150,7 +150,7 @@ fn try_any(
         return leader;
     }
     try_mixed(
-        blocks,
+        entries,
         charges,
         n,
         m,
@@ -166,7 +166,7 @@ fn try_any(
 
 // The first pair of least charge, and its charge.
 pub fn first_least(
-    blocks: &[u8; 2048],
+    entries: &[u8; 2048],
     charges: &[u32; 256],
     n: usize,
     m: usize,
@@ -176,7 +176,7 @@ pub fn first_least(
     planes: &mut [u8],
     functions: &mut [u8],
 ) -> Leader
-    requires { ⌜ (now blocks ≡ blockTable) × (now charges ≡ tabulate 256 byteCharge) ⌝ }
+    requires { ⌜ (now entries ≡ blockTable) × (now charges ≡ tabulate 256 byteCharge) ⌝ }
     requires { ⌜ Limits n m k ⌝ }
     requires { ⌜ Given n m (now table) ⌝ }
     requires { ⌜ Room n m k (length (now places)) (length (now planes)) (length (now functions)) ⌝ }
@@ -190,7 +190,7 @@ pub fn first_least(
     let mut mixed: usize = 0;
     while mixed < all {
         let next = try_any(
-            blocks,
+            entries,
             charges,
             n,
             m,

@@ -6,7 +6,7 @@ use crate::sizes::Sizes;
 use crate::read::read_table;
 use crate::write::Listed;
 use crate::write::write_listing;
-use search::search::search;
+use search::answer::find_answer;
 ghost use mathlib.Core.Path.{_≡_};
 ghost use lib.ListN.{length};
 ghost use Rattle.text.specs.Read.{given};
@@ -29,7 +29,7 @@ fn compile_table(sizes: Sizes, table: &[u8], output: &mut [u8]) -> Compiled
     let m = sizes.m;
     let k = sizes.k;
     let size: usize = 1 << n;
-    let answer = search(n, m, k, &table[..size]);
+    let answer = find_answer(n, m, k, &table[..size]);
     match write_listing(n, m, k, answer, output) {
         Listed::Length(length) => Compiled::Written { length },
         Listed::Short => Compiled::Refused {
@@ -44,7 +44,7 @@ fn compile_table(sizes: Sizes, table: &[u8], output: &mut [u8]) -> Compiled
 pub fn compile(text: &[u8], output: &mut [u8]) -> Compiled
     ensures { λ r. ⌜ Compile (now (text .entry)) (now (output .entry)) (now (output .exit)) r ⌝ }
 {
-    let mut table = [0u8; 256];
+    let mut table = [0u8; Sizes::TABLE];
     match read_table(text, &mut table) {
         ReadAnswer::Given(sizes) => compile_table(sizes, &table, output),
         ReadAnswer::Refused { number, line } => Compiled::Refused { number, line },

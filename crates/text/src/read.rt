@@ -29,11 +29,8 @@ enum Step {
     Refused { number: usize, line: usize },
 }
 
-// The bytes of the table that is lent: one for each point of eight inputs.
-const TABLE: usize = 256;
-
 // Puts a point's outputs into the table, if the point is below 2^n and at least `least`; else the table stays.
-fn put_outputs(n: usize, least: usize, point: usize, outputs: usize, table: &mut [u8; TABLE]) -> bool
+fn put_outputs(n: usize, least: usize, point: usize, outputs: usize, table: &mut [u8; Sizes::TABLE]) -> bool
     requires { ⌜ (n ≤ 8) × (outputs < 256) ⌝ }
     ensures { λ r. ⌜ r ≡ (ltb point (2 ^ n) && leb least point) ⌝ }
     ensures { λ r. ⌜ now (table .exit) ≡ cond r (set (now (table .entry)) point outputs) (now (table .entry)) ⌝ }
@@ -61,7 +58,7 @@ fn judge_line(
     cursor: Cursor,
     sizes: Sizes,
     least: usize,
-    table: &mut [u8; TABLE],
+    table: &mut [u8; Sizes::TABLE],
 ) -> Step
     requires { ⌜ (Within (now text) cursor) × (sizes .n ≤ 8) × (sizes .m ≤ 8) ⌝ }
     ensures { λ r. ⌜ Stepped (now (text .entry)) cursor sizes least (now (table .entry)) r (now (table .exit)) ⌝ }
@@ -97,7 +94,7 @@ fn judge_line(
 }
 
 // Judges the lines from the cursor on, and puts their outputs into the table.
-fn judge_lines(text: &[u8], start: Cursor, sizes: Sizes, table: &mut [u8; TABLE]) -> ReadAnswer
+fn judge_lines(text: &[u8], start: Cursor, sizes: Sizes, table: &mut [u8; Sizes::TABLE]) -> ReadAnswer
     requires { ⌜ (Within (now text) start) × (sizes .n ≤ 8) × (sizes .m ≤ 8) ⌝ }
     ensures { λ r. ⌜ standsFor r (now (table .exit)) ≡ linesAt (now (text .entry)) sizes start 0 (now (table .entry)) ⌝ }
 {
@@ -130,7 +127,7 @@ fn judge_first(line: &[u8]) -> ReadAnswer
 }
 
 // Judges the text from its first line on, and fills the table, which comes all zero.
-fn judge_text(text: &[u8], table: &mut [u8; TABLE]) -> ReadAnswer
+fn judge_text(text: &[u8], table: &mut [u8; Sizes::TABLE]) -> ReadAnswer
     requires { ⌜ now table ≡ replicate 256 0 ⌝ }
     ensures { λ r. ⌜ standsFor r (now (table .exit)) ≡ reading (now (text .entry)) ⌝ }
 {
@@ -165,11 +162,11 @@ fn copy(from: &[u8], to: &mut [u8])
 pub fn read_table(text: &[u8], table: &mut [u8]) -> ReadAnswer
     ensures { λ r. ⌜ ReadTable (now (text .entry)) (now (table .entry)) r (now (table .exit)) ⌝ }
 {
-    let mut rows = [0u8; TABLE];
+    let mut rows = [0u8; Sizes::TABLE];
     let answer = judge_text(text, &mut rows);
     match answer {
         ReadAnswer::Given(_) => {
-            if table.len() != TABLE {
+            if table.len() != Sizes::TABLE {
                 return ReadAnswer::Refused { number: 8, line: 0 };
             }
             copy(&rows, table);

@@ -92,8 +92,8 @@ fn write_terms(
     m: usize,
     mixed: usize,
     fixed: usize,
-    coefficients: &[u8; 256],
-    blocks: &[u8; 256],
+    coefficients: &[u8; Expansion::PLACES],
+    blocks: &[u8; Expansion::PLACES],
 ) -> Writer
     requires { ⌜ (n ≤ 8) × (m ≤ 8) × (mixed < 2 ^ n) × (fixed < 2 ^ n) ⌝ }
     requires { ⌜ start .at + length (productLines n m mixed fixed (at (now blocks)) (at (now coefficients))) ≤ length (now out) ⌝ }

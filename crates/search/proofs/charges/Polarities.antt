@@ -15,7 +15,8 @@ use Rattle.numbers.proofs.Shifts.{one-shifted}
 use Rattle.expansions.specs.Answers.{leastPolarity}
 use Rattle.expansions.specs.Charges.{byteCharge}
 use Rattle.expansions.specs.Costs.{weight}
-use Rattle.expansions.specs.Least.{firstLeast, Leading}
+use Rattle.expansions.specs.Least.{firstLeast}
+use Rattle.expansions.specs.inner.Leading.{Leading}
 use Rattle.search.specs.inner.Search.{usedAt, usedCharge, IsCheapest}
 use Rattle.search.specs.declared.charges.Cheapest.{Cheapest}
 use Rattle.expansions.proofs.Least.{leading-take, leading-keep, leading-chosen}

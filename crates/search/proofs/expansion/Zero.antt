@@ -18,7 +18,7 @@ use Rattle.search.specs.Expansion.{answerExpansion, emptyExpansion, sear
 use Rattle.expansions.proofs.Least.{then-from}
 use Rattle.expansions.proofs.Lowest.{lowest-member, lowest-first}
 use Rattle.expansions.proofs.Answers.{answer-polarity-zero, answer-coefficient-zero, answer-only}
-use Rattle.search.proofs.search.Searchable.{allowed-sizes}
+use Rattle.search.proofs.answer.Searchable.{allowed-sizes}
 
 -- ---- no product
 

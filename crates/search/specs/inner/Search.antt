@@ -16,7 +16,8 @@ use Rattle.expansions.specs.Split.{join}
 use Rattle.expansions.specs.Members.{block, place}
 use Rattle.expansions.specs.BlockTable.{entry, plane}
 use Rattle.expansions.specs.Charges.{byteCharge}
-use Rattle.expansions.specs.Least.{firstLeast, Leading}
+use Rattle.expansions.specs.Least.{firstLeast}
+use Rattle.expansions.specs.inner.Leading.{Leading}
 use Rattle.expansions.specs.Answers.{blockFunction, blockCharge, leastPolarity, pairCharge, validPair}
 use Rattle.search.specs.declared.charges.Cheapest.{Cheapest}
 use Rattle.search.specs.declared.pairs.Leader.{Leader}

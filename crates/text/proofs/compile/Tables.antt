@@ -15,7 +15,7 @@ use Rattle.numbers.proofs.Shifts.{one-shifted}
 use Rattle.numbers.proofs.refusals.Outputs.{below-from}
 use Rattle.search.specs.Expansion.{answerExpansion, searched}
 use Rattle.search.proofs.expansion.Answer.{answerExpansion-is, answerExpansion-ext}
-use Rattle.search.proofs.search.Searchable.{searched-answer}
+use Rattle.search.proofs.answer.Searchable.{searched-answer}
 use Rattle.text.specs.declared.sizes.Sizes.{Sizes}
 use Rattle.text.specs.declared.write.Listed.{Listed}
 use Rattle.text.specs.declared.write.Listed.the-variants as listed

@@ -4,7 +4,7 @@ use mathlib.Core.Path.{sym, _∙_}
 use lib.ListN.{length}
 use Rattle.search.proofs.calls.Judging.{Accepted, refusal-none, accepted-room}
 use Rattle.search.proofs.calls.Meaning.{minimise-found, minimise-refused}
-use Rattle.search.proofs.search.Searchable.{searched-answer}
+use Rattle.search.proofs.answer.Searchable.{searched-answer}
 use Rattle.search.proofs.calls.minimise.Statement.{statement}
 use Rattle.search.proofs.calls.minimise.Tie as tie
 
@@ -19,8 +19,8 @@ accepted : (c : tie.Else1) → let a = c .before .before .before .before .before
     Accepted (a .n) (a .m) (a .k) (a .table .now) (length (a .coefficients .now)) (length (a .blocks .now))
 accepted c = refusal-none _ _ _ _ _ _ (sym (c .before .first-refusal .ensures) ∙ c .if1 .left)
 
-search-requires : tie.Need-search-requires
-search-requires c κs = search needs
+find-answer-requires : tie.Need-find-answer-requires
+find-answer-requires c κs = search needs
 
 copy-places-requires : tie.Need-copy-places-requires
 copy-places-requires c κs = accepted-room _ _ _ _ _ _ (accepted (c .before .before .before .before)) .0
@@ -41,7 +41,7 @@ returns-2 c =
     let passed = searched .before in
     let a = accepted passed in
     minimise-found _ _ _ _ _ _ _ _ _ (sym (passed .before .first-refusal .ensures) ∙ passed .if1 .left)
-    (searched .search .ensures ∙ searched-answer _ _ _ _ (a .sized) (a .table-long) (a .clean))
+    (searched .find-answer .ensures ∙ searched-answer _ _ _ _ (a .sized) (a .table-long) (a .clean))
     (copied .copy-places .ensures) (c .before .before .copy-places2 .ensures)
 
 pub minimise-spec : {M : Type 1} → statement M
@@ -50,7 +50,7 @@ minimise-spec =
     (tie.spec
     first-refusal-requires
     returns
-    search-requires
+    find-answer-requires
     copy-places-requires
     copy-places-requires-2
     same-length

@@ -12,15 +12,15 @@ use Rattle.text.proofs.compile.compile_table.Tie as tie
 shl-size : tie.Need-shl-size
 shl-size c = search needs
 
-slice-aggregate-search : tie.Need-slice-aggregate-search
-slice-aggregate-search c = sym (length-take-le _ _ (part-within _ _ (c .before .before .before .pre)))
+slice-aggregate-find-answer : tie.Need-slice-aggregate-find-answer
+slice-aggregate-find-answer c = sym (length-take-le _ _ (part-within _ _ (c .before .before .before .pre)))
 
-search-requires : tie.Need-search-requires
-search-requires c κs = search needs
+find-answer-requires : tie.Need-find-answer-requires
+find-answer-requires c κs = search needs
 
 write-listing-requires : tie.Need-write-listing-requires
 write-listing-requires c κs =
-    let found = c .before .search .ensures ∙ searched-table _ _ (c .before .before .before .before .before .pre) in
+    let found = c .before .find-answer .ensures ∙ searched-table _ _ (c .before .before .before .before .before .pre) in
     subst (Listable _ _) (sym found) (table-listable _ _ (c .before .before .before .before .before .pre))
 
 enum-known-length : tie.Need-enum-known-length
@@ -35,7 +35,7 @@ same-length c = search needs
 returns : tie.Need-returns
 returns c =
     let s = c .before .before .before .before .before .before .before .before .before .before .before in
-    let found = c .before .before .before .before .before .before .before .search .ensures ∙ searched-table _ _ (s .pre) in
+    let found = c .before .before .before .before .before .before .before .find-answer .ensures ∙ searched-table _ _ (s .pre) in
     let w = subst (λ (e : Expansion). WriteListing (s .args .sizes .n) (s .args .sizes .m) (s .args .sizes .k) e (s .args .output .now) (c .before .before .before .before .before .write-listing .result) (c .before .before .before .before .before .write-listing .last .1 .1 .1 .1 .0)) found (c .before .before .before .before .before .write-listing .ensures) in
     (sym (ap said (c .before .length .given .1)) ∙ compiled-answer (s .args .sizes) (s .args .table .now) _ _ _ w, compiled-bytes (s .args .sizes) (s .args .table .now) _ _ _ w)
 
@@ -45,7 +45,7 @@ same-length-2 c = search needs
 returns-2 : tie.Need-returns-2
 returns-2 c =
     let s = c .before .before .before .before .before .before .before .before .before .before in
-    let found = c .before .before .before .before .before .before .search .ensures ∙ searched-table _ _ (s .pre) in
+    let found = c .before .before .before .before .before .before .find-answer .ensures ∙ searched-table _ _ (s .pre) in
     let w = subst (λ (e : Expansion). WriteListing (s .args .sizes .n) (s .args .sizes .m) (s .args .sizes .k) e (s .args .output .now) (c .before .before .before .before .write-listing .result) (c .before .before .before .before .write-listing .last .1 .1 .1 .1 .0)) found (c .before .before .before .before .write-listing .ensures) in
     (sym (ap said (c .enum-told .given .1)) ∙ compiled-answer (s .args .sizes) (s .args .table .now) _ _ _ w, compiled-bytes (s .args .sizes) (s .args .table .now) _ _ _ w)
 
@@ -54,8 +54,8 @@ compile-table-spec =
     tie.close
     (tie.spec
     shl-size
-    slice-aggregate-search
-    search-requires
+    slice-aggregate-find-answer
+    find-answer-requires
     write-listing-requires
     enum-known-length
     enum-told

@@ -6,8 +6,8 @@ use Rattle.numbers.proofs.Shifts.{one-shifted}
 use Rattle.search.specs.inner.Search.{polarityAt}
 use Rattle.expansions.proofs.Answers.{only-below, only-above}
 use native.Mathlib.Omega.{arith}
-use Rattle.search.proofs.record.polarity_at.Statement.{statement}
-use Rattle.search.proofs.record.polarity_at.Tie as tie
+use Rattle.search.proofs.found.polarity_at.Statement.{statement}
+use Rattle.search.proofs.found.polarity_at.Tie as tie
 
 size : (c : tie.Start) → 1 * 2 ^ (c .args .n - c .args .k) % 2 ^ 64 ≡ 2 ^ (c .args .n - c .args .k)
 size c = one-shifted (c .args .n - c .args .k) (omega arith)

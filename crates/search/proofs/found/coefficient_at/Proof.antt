@@ -9,10 +9,10 @@ use Rattle.expansions.specs.Members.{block}
 use Rattle.search.specs.inner.Search.{coefficientAt}
 use Rattle.expansions.proofs.Split.{ones-others, gather-lt}
 use Rattle.expansions.proofs.Answers.{only-above}
-use Rattle.search.proofs.record.Bytes.{coefficientAt-byte}
+use Rattle.search.proofs.found.Bytes.{coefficientAt-byte}
 use native.Mathlib.Omega.{arith}
-use Rattle.search.proofs.record.coefficient_at.Statement.{statement}
-use Rattle.search.proofs.record.coefficient_at.Tie as tie
+use Rattle.search.proofs.found.coefficient_at.Statement.{statement}
+use Rattle.search.proofs.found.coefficient_at.Tie as tie
 
 size : (c : tie.Start) → 1 * 2 ^ c .args .n % 2 ^ 64 ≡ 2 ^ c .args .n
 size c = one-shifted (c .args .n) (omega arith)

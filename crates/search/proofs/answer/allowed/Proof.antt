@@ -8,8 +8,8 @@ use Rattle.numbers.specs.Refusals.{sizesRefusal}
 use Rattle.numbers.proofs.Shifts.{one-shifted}
 use Rattle.numbers.proofs.refusals.Judging.{sizes-none}
 use Rattle.search.specs.Expansion.{searchable}
-use Rattle.search.proofs.search.allowed.Statement.{statement}
-use Rattle.search.proofs.search.allowed.Tie as tie
+use Rattle.search.proofs.answer.allowed.Statement.{statement}
+use Rattle.search.proofs.answer.allowed.Tie as tie
 
 judge-sizes-requires : tie.Need-judge-sizes-requires
 judge-sizes-requires c κs = search needs

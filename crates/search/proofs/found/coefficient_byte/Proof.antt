@@ -8,10 +8,10 @@ use Rattle.numbers.specs.Bytes.{at}
 use Rattle.numbers.specs.Bits.{pack}
 use Rattle.search.proofs.charges.Used.{function-at}
 use Rattle.numbers.proofs.Pack.{pack-none}
-use Rattle.search.proofs.record.Bytes.{outputBit, outputs-more, outputs-fit}
+use Rattle.search.proofs.found.Bytes.{outputBit, outputs-more, outputs-fit}
 use native.Mathlib.Omega.{arith}
-use Rattle.search.proofs.record.coefficient_byte.Statement.{statement}
-use Rattle.search.proofs.record.coefficient_byte.Tie as tie
+use Rattle.search.proofs.found.coefficient_byte.Statement.{statement}
+use Rattle.search.proofs.found.coefficient_byte.Tie as tie
 
 abbrev Inv-loop : tie.InvT-loop
 Inv-loop blocks m r functions j s polarity byte₀ o₀ byte o = (o ≤ m) × (byte ≡ pack o (outputBit functions r j s polarity))

@@ -10,8 +10,8 @@ use Rattle.search.specs.Expansion.{answerExpansion}
 use Rattle.search.specs.inner.Search.{Limits, HoldsBlocks, Leads, polarityAt, coefficientAt}
 use Rattle.search.specs.declared.expansion.Expansion.{Expansion}
 use Rattle.search.specs.declared.pairs.Leader.{Leader}
-use Rattle.search.proofs.record.Places.{polarities-answer, chosen-lt, coefficients-answer}
-use Rattle.search.proofs.record.Leader.{leader-mixed, leader-fixed, leader-products, leader-literals}
+use Rattle.search.proofs.found.Places.{polarities-answer, chosen-lt, coefficients-answer}
+use Rattle.search.proofs.found.Leader.{leader-mixed, leader-fixed, leader-products, leader-literals}
 
 -- `functions` holds the block functions of the leader's M and i, and `blocks` the polarities found from them
 module _ (n m k : ℕ) (f : ℕ → ℕ) (leader : Leader) (functions blocks : List ℕ) (sizes : Limits n m k) (outputs : (p : ℕ) → p < 2 ^ n → f p < 2 ^ m)

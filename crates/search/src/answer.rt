@@ -11,13 +11,13 @@ use crate::block_table::block_table;
 use crate::charges::byte_charges;
 use crate::expansion::Expansion;
 use crate::pairs::first_least;
-use crate::record::expansion_of;
+use crate::found::expansion_of;
 use numbers::refusals::judge_sizes;
 use numbers::refusals::within_outputs;
 
 // The answer's record, in lent room for the places, the planes and the block functions.
 fn search_within(
-    blocks: &[u8; 2048],
+    entries: &[u8; 2048],
     charges: &[u32; 256],
     n: usize,
     m: usize,
@@ -27,15 +27,15 @@ fn search_within(
     planes: &mut [u8],
     functions: &mut [u8],
 ) -> Expansion
-    requires { ⌜ (now blocks ≡ blockTable) × (now charges ≡ tabulate 256 byteCharge) ⌝ }
+    requires { ⌜ (now entries ≡ blockTable) × (now charges ≡ tabulate 256 byteCharge) ⌝ }
     requires { ⌜ Limits n m k ⌝ }
     requires { ⌜ Given n m (now table) ⌝ }
     requires { ⌜ Room n m k (length (now places)) (length (now planes)) (length (now functions)) ⌝ }
     ensures { λ e. ⌜ e ≡ answerExpansion n k (at (now (table .entry))) ⌝ }
 {
-    let leader = first_least(blocks, charges, n, m, k, table, places, planes, functions);
+    let leader = first_least(entries, charges, n, m, k, table, places, planes, functions);
     expansion_of(
-        blocks,
+        entries,
         charges,
         n,
         m,
@@ -54,7 +54,7 @@ fn search_allowed(n: usize, m: usize, k: usize, table: &[u8]) -> Expansion
     requires { ⌜ Given n m (now table) ⌝ }
     ensures { λ e. ⌜ e ≡ answerExpansion n k (at (now (table .entry))) ⌝ }
 {
-    let blocks = block_table();
+    let entries = block_table();
     let charges = byte_charges();
     let mut places = [0u8; 2048];
     let mut planes = [0u8; 2048];
@@ -62,7 +62,7 @@ fn search_allowed(n: usize, m: usize, k: usize, table: &[u8]) -> Expansion
     let rows: usize = 8 << (n - k);
     let used = m << (n - k);
     search_within(
-        &blocks,
+        &entries,
         &charges,
         n,
         m,
@@ -90,7 +90,7 @@ fn allowed(n: usize, m: usize, k: usize, table: &[u8]) -> bool
 
 // The record of the answer for a table of n inputs and m outputs, with k mixed inputs. Where these are not such numbers, or the bytes not
 // such a table, it hands up the empty record; the calls refuse before they get here.
-pub fn search(n: usize, m: usize, k: usize, table: &[u8]) -> Expansion
+pub fn find_answer(n: usize, m: usize, k: usize, table: &[u8]) -> Expansion
     ensures { λ e. ⌜ e ≡ searched n m k (now (table .entry)) ⌝ }
 {
     if allowed(n, m, k, table) {

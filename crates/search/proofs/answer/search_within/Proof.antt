@@ -1,8 +1,8 @@
 -- `search_within` meets its contract.
 use borrow.Author.Needs.{needs}
 use mathlib.Core.Path.{_∙_}
-use Rattle.search.proofs.search.search_within.Statement.{statement}
-use Rattle.search.proofs.search.search_within.Tie as tie
+use Rattle.search.proofs.answer.search_within.Statement.{statement}
+use Rattle.search.proofs.answer.search_within.Tie as tie
 
 first-least-requires : tie.Need-first-least-requires
 first-least-requires c κs = c .before .before .before .before .before .before .before .pre

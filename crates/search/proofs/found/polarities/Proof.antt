@@ -5,8 +5,8 @@ use Rattle.numbers.specs.Bytes.{at}
 use Rattle.search.specs.inner.Search.{polarityAt}
 use Rattle.numbers.proofs.Bytes.{Filled, filled-none, filled-more, filled-all}
 use native.Mathlib.Omega.{arith}
-use Rattle.search.proofs.record.polarities.Statement.{statement}
-use Rattle.search.proofs.record.polarities.Tie as tie
+use Rattle.search.proofs.found.polarities.Statement.{statement}
+use Rattle.search.proofs.found.polarities.Tie as tie
 
 abbrev Inv-loop : tie.InvT-loop
 Inv-loop blocks charges n m k functions all₀ j₀ all j = Filled (polarityAt n m k (at functions)) j all₀ all

@@ -1,10 +1,10 @@
--- `search` meets its contract.
+-- `find_answer` meets its contract.
 use borrow.Author.Needs.{needs}
 use mathlib.Core.Path.{sym, _∙_}
 use Rattle.search.specs.Expansion.{searched}
-use Rattle.search.proofs.search.Searchable.{allowed-sizes, allowed-table}
-use Rattle.search.proofs.search.search.Statement.{statement}
-use Rattle.search.proofs.search.search.Tie as tie
+use Rattle.search.proofs.answer.Searchable.{allowed-sizes, allowed-table}
+use Rattle.search.proofs.answer.find_answer.Statement.{statement}
+use Rattle.search.proofs.answer.find_answer.Tie as tie
 
 allowed-requires : tie.Need-allowed-requires
 allowed-requires c κs = search needs
@@ -25,6 +25,6 @@ returns-2 : tie.Need-returns-2
 unfolding searched
 returns-2 c = c .empty .ensures ∙ sym (rw (sym (c .before .before .allowed .ensures) ∙ c .before .if1 .left))
 
-pub search-spec : {M : Type 1} → statement M
-search-spec =
+pub find-answer-spec : {M : Type 1} → statement M
+find-answer-spec =
     tie.close (tie.spec allowed-requires search-allowed-requires returns empty-requires returns-2)

@@ -6,12 +6,12 @@ use native.Mathlib.Omega.{arith}
 use lib.Bits.{bitAnd, and-mask}
 use Rattle.numbers.proofs.Shifts.{one-shifted}
 use Rattle.expansions.specs.Members.{Member}
-use Rattle.expansions.specs.Costs.{products, literals, charge}
+use Rattle.expansions.specs.Costs.{products, literals}
+use Rattle.expansions.proofs.Costs.{charge, charge-products, charge-literals}
 use Rattle.expansions.specs.Answers.{leastPair, answerPair, answerMixed, answerFixed, answerPolarity, answerCoefficient}
 use Rattle.search.specs.inner.Search.{pairValid, pairCost, Leads}
 use Rattle.search.specs.declared.pairs.Leader.{Leader}
 use Rattle.expansions.proofs.Least.{leading-chosen}
-use Rattle.expansions.proofs.Costs.{charge-products, charge-literals}
 use Rattle.expansions.proofs.Answers.{answer-first, answer-member, answer-charge}
 
 module _ (n k : ℕ) (f : ℕ → ℕ) (leader : Leader) (hn : n ≤ 8) (hk : k ≤ n) (leads : Leads n k f (2 ^ n * 2 ^ n) leader) where

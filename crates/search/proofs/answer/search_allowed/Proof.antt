@@ -1,10 +1,10 @@
 -- `search_allowed` meets its contract: the lent parts of the three arrays have the room that is asked.
 use borrow.Author.Needs.{needs}
 use mathlib.Core.Path.{sym, _∙_}
-use Rattle.search.proofs.search.Room.{room-le, room-shifted, room-lent}
+use Rattle.search.proofs.answer.Room.{room-le, room-shifted, room-lent}
 use native.Mathlib.Omega.{arith}
-use Rattle.search.proofs.search.search_allowed.Statement.{statement}
-use Rattle.search.proofs.search.search_allowed.Tie as tie
+use Rattle.search.proofs.answer.search_allowed.Statement.{statement}
+use Rattle.search.proofs.answer.search_allowed.Tie as tie
 
 block-table-requires : tie.Need-block-table-requires
 block-table-requires c κs = search needs

@@ -8,11 +8,11 @@ use Rattle.numbers.specs.Bytes.{at}
 use Rattle.numbers.proofs.Shifts.{one-shifted}
 use Rattle.expansions.specs.Members.{Member}
 use Rattle.expansions.specs.Answers.{answerPolarity}
-use Rattle.search.proofs.record.Leader.{leader-member}
-use Rattle.search.proofs.record.Answer.{blocks-lt, record-answer}
+use Rattle.search.proofs.found.Leader.{leader-member}
+use Rattle.search.proofs.found.Answer.{blocks-lt, record-answer}
 use native.Mathlib.Omega.{arith}
-use Rattle.search.proofs.record.expansion_of.Statement.{statement}
-use Rattle.search.proofs.record.expansion_of.Tie as tie
+use Rattle.search.proofs.found.expansion_of.Statement.{statement}
+use Rattle.search.proofs.found.expansion_of.Tie as tie
 
 abbrev start : tie.After-expand-planes → tie.Start
 start c = c .before .before .before .before .before .before .before .before .before .before .before .before .before .before .before .before

@@ -20,7 +20,7 @@ use crate::points::outside;
 
 // The first least polarity of block j, and 0 where there is no block j.
 fn polarity_at(
-    blocks: &[u8; 2048],
+    entries: &[u8; 2048],
     charges: &[u32; 256],
     n: usize,
     m: usize,
@@ -28,7 +28,7 @@ fn polarity_at(
     functions: &[u8],
     j: usize,
 ) -> u8
-    requires { ⌜ (now blocks ≡ blockTable) × (now charges ≡ tabulate 256 byteCharge) ⌝ }
+    requires { ⌜ (now entries ≡ blockTable) × (now charges ≡ tabulate 256 byteCharge) ⌝ }
     requires { ⌜ Limits n m k ⌝ }
     requires { ⌜ length (now functions) ≡ m * 2 ^ (n - k) ⌝ }
     ensures { λ φ. ⌜ φ ≡ polarityAt n m k (at (now (functions .entry))) j ⌝ }
@@ -38,20 +38,20 @@ fn polarity_at(
     if size <= j {
         return 0;
     }
-    let least = cheapest_block(blocks, charges, m, r, k, functions, j);
+    let least = cheapest_block(entries, charges, m, r, k, functions, j);
     least.polarity
 }
 
 // The first least polarity of each block, from the block functions.
 fn polarities(
-    blocks: &[u8; 2048],
+    entries: &[u8; 2048],
     charges: &[u32; 256],
     n: usize,
     m: usize,
     k: usize,
     functions: &[u8],
 ) -> [u8; Expansion::PLACES]
-    requires { ⌜ (now blocks ≡ blockTable) × (now charges ≡ tabulate 256 byteCharge) ⌝ }
+    requires { ⌜ (now entries ≡ blockTable) × (now charges ≡ tabulate 256 byteCharge) ⌝ }
     requires { ⌜ Limits n m k ⌝ }
     requires { ⌜ length (now functions) ≡ m * 2 ^ (n - k) ⌝ }
     ensures { λ φ. ⌜ φ ≡ tabulate 256 (polarityAt n m k (at (now (functions .entry)))) ⌝ }
@@ -59,7 +59,7 @@ fn polarities(
     let mut all = [0u8; Expansion::PLACES];
     let mut j: usize = 0;
     while j < Expansion::PLACES {
-        all[j] = polarity_at(blocks, charges, n, m, k, functions, j);
+        all[j] = polarity_at(entries, charges, n, m, k, functions, j);
         j += 1;
     }
     all
@@ -67,7 +67,7 @@ fn polarities(
 
 // The coefficient at place s of block j under the block polarity, all outputs together.
 fn coefficient_byte(
-    blocks: &[u8; 2048],
+    entries: &[u8; 2048],
     m: usize,
     r: usize,
     functions: &[u8],
@@ -75,14 +75,14 @@ fn coefficient_byte(
     s: usize,
     polarity: u8,
 ) -> u8
-    requires { ⌜ (now blocks ≡ blockTable) × (m ≤ 8) × (r ≤ 8) × (j < 2 ^ r) × (length (now functions) ≡ m * 2 ^ r) × (s < 8) × (polarity < 8) ⌝ }
+    requires { ⌜ (now entries ≡ blockTable) × (m ≤ 8) × (r ≤ 8) × (j < 2 ^ r) × (length (now functions) ≡ m * 2 ^ r) × (s < 8) × (polarity < 8) ⌝ }
     ensures { λ c. ⌜ c ≡ pack m (λ o. bit s (entry (at (now (functions .entry)) (o * 2 ^ r + j)) polarity)) ⌝ }
 {
     let mut byte: u8 = 0;
     let mut o: usize = 0;
     while o < m {
         let row = functions[(o << r) + j] as usize * 8;
-        let digit = (blocks[row + polarity as usize] >> s) % 2;
+        let digit = (entries[row + polarity as usize] >> s) % 2;
         byte += digit << o;
         o += 1;
     }
@@ -91,7 +91,7 @@ fn coefficient_byte(
 
 // The coefficient of the term t, and 0 where there is no term t.
 fn coefficient_at(
-    blocks: &[u8; 2048],
+    entries: &[u8; 2048],
     n: usize,
     m: usize,
     k: usize,
@@ -100,7 +100,7 @@ fn coefficient_at(
     chosen: &[u8; Expansion::PLACES],
     t: usize,
 ) -> u8
-    requires { ⌜ (now blocks ≡ blockTable) × (mixed < 2 ^ n) × (onesIn n mixed ≡ k) ⌝ }
+    requires { ⌜ (now entries ≡ blockTable) × (mixed < 2 ^ n) × (onesIn n mixed ≡ k) ⌝ }
     requires { ⌜ Limits n m k ⌝ }
     requires { ⌜ length (now functions) ≡ m * 2 ^ (n - k) ⌝ }
     requires { ⌜ ((j : ℕ) → at (now chosen) j < 8) ⌝ }
@@ -112,12 +112,12 @@ fn coefficient_at(
     }
     let j = gather(n, outside(n, mixed), t);
     let s = gather(n, mixed, t);
-    coefficient_byte(blocks, m, n - k, functions, j, s, chosen[j])
+    coefficient_byte(entries, m, n - k, functions, j, s, chosen[j])
 }
 
 // The coefficient of each term, from the block functions and the polarity of each block.
 fn coefficients(
-    blocks: &[u8; 2048],
+    entries: &[u8; 2048],
     n: usize,
     m: usize,
     k: usize,
@@ -125,7 +125,7 @@ fn coefficients(
     functions: &[u8],
     chosen: &[u8; Expansion::PLACES],
 ) -> [u8; Expansion::PLACES]
-    requires { ⌜ (now blocks ≡ blockTable) × (mixed < 2 ^ n) × (onesIn n mixed ≡ k) ⌝ }
+    requires { ⌜ (now entries ≡ blockTable) × (mixed < 2 ^ n) × (onesIn n mixed ≡ k) ⌝ }
     requires { ⌜ Limits n m k ⌝ }
     requires { ⌜ length (now functions) ≡ m * 2 ^ (n - k) ⌝ }
     requires { ⌜ ((j : ℕ) → at (now chosen) j < 8) ⌝ }
@@ -134,7 +134,7 @@ fn coefficients(
     let mut all = [0u8; Expansion::PLACES];
     let mut t: usize = 0;
     while t < Expansion::PLACES {
-        all[t] = coefficient_at(blocks, n, m, k, mixed, functions, chosen, t);
+        all[t] = coefficient_at(entries, n, m, k, mixed, functions, chosen, t);
         t += 1;
     }
     all
@@ -142,7 +142,7 @@ fn coefficients(
 
 // The record of the leader of all the pairs, which begins as the empty record. `places`, `planes` and `functions` are room to work in.
 pub fn expansion_of(
-    blocks: &[u8; 2048],
+    entries: &[u8; 2048],
     charges: &[u32; 256],
     n: usize,
     m: usize,
@@ -153,7 +153,7 @@ pub fn expansion_of(
     functions: &mut [u8],
     leader: Leader,
 ) -> Expansion
-    requires { ⌜ (now blocks ≡ blockTable) × (now charges ≡ tabulate 256 byteCharge) ⌝ }
+    requires { ⌜ (now entries ≡ blockTable) × (now charges ≡ tabulate 256 byteCharge) ⌝ }
     requires { ⌜ Limits n m k ⌝ }
     requires { ⌜ Given n m (now table) ⌝ }
     requires { ⌜ Room n m k (length (now places)) (length (now planes)) (length (now functions)) ⌝ }
@@ -165,8 +165,8 @@ pub fn expansion_of(
     let fixed = leader.pair & (all - 1);
     lay_out(n, m, k, mixed, table, places, planes);
     expand_planes(n, m, k, mixed, fixed, table, planes, functions);
-    let chosen = polarities(blocks, charges, n, m, k, functions);
-    let filled = coefficients(blocks, n, m, k, mixed, functions, &chosen);
+    let chosen = polarities(entries, charges, n, m, k, functions);
+    let filled = coefficients(entries, n, m, k, mixed, functions, &chosen);
     let mut found = Expansion::empty(k);
     found.coefficients = filled;
     found.blocks = chosen;

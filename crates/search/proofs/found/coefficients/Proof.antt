@@ -5,8 +5,8 @@ use Rattle.numbers.specs.Bytes.{at}
 use Rattle.search.specs.inner.Search.{coefficientAt}
 use Rattle.numbers.proofs.Bytes.{Filled, filled-none, filled-more, filled-all}
 use native.Mathlib.Omega.{arith}
-use Rattle.search.proofs.record.coefficients.Statement.{statement}
-use Rattle.search.proofs.record.coefficients.Tie as tie
+use Rattle.search.proofs.found.coefficients.Statement.{statement}
+use Rattle.search.proofs.found.coefficients.Tie as tie
 
 abbrev Inv-loop : tie.InvT-loop
 Inv-loop blocks n m k mixed functions chosen all₀ t₀ all t = Filled (coefficientAt n m k mixed (at functions) (at chosen)) t all₀ all
