@@ -10,7 +10,7 @@ use Rattle.search.specs.Calls as minimising
 use Rattle.search.specs.Expansion.{answerExpansion}
 use Rattle.search.specs.declared.calls.Minimised.{Minimised}
 use Rattle.search.specs.declared.calls.Minimised.the-variants as minimised
-use Rattle.text.specs.Read as reading
+use Rattle.table_texts.specs.Read as reading
 use Rattle.text.specs.declared.compile.Compiled.{Compiled}
 use Rattle.text.specs.declared.compile.Compiled.the-variants as compiled
 

@@ -1,12 +1,12 @@
 // The reading call and the text call. The reading call's answer is five numbers: the refusal's number and its line, n, m and k. The text
 // call's answer is three: the refusal's number and its line, and the listing's length.
 use text::compile::Compiled;
-use text::read::ReadAnswer;
+use table_texts::read::ReadAnswer;
 ghost use mathlib.Core.List.{List};
 ghost use mathlib.Core.Path.{_≡_};
 ghost use Prim.Native.Nat.{ℕ};
 ghost use lib.ListN.{length};
-ghost use Rattle.text.specs.Read.{reading, lent, standsFor, tableAfter};
+ghost use Rattle.table_texts.specs.Read.{reading, lent, standsFor, tableAfter};
 ghost use Rattle.text.specs.Compile.{compiled, Compile};
 ghost use Rattle.capi.specs.Answers.{readNumbers, listingNumbers};
 
@@ -30,13 +30,13 @@ fn listing_numbers(r: Compiled) -> [u64; 3]
     }
 }
 
-// Takes a table text and fills a table of 256 bytes, as `text::read::read_table` does, which judges and refuses.
+// Takes a table text and fills a table of 256 bytes, as `table_texts::read::read_table` does, which judges and refuses.
 #[no_mangle]
 pub extern "C" fn mipaldoz_read(text: &[u8], table: &mut [u8], answer: &mut [u64; 5])
     ensures bytes { λ _. ⌜ now (table .exit) ≡ tableAfter (lent (reading (now (text .entry))) (length (now (table .entry)))) (now (table .entry)) ⌝ }
     ensures answer { λ _. ⌜ now (answer .exit) ≡ readNumbers (lent (reading (now (text .entry))) (length (now (table .entry)))) ⌝ }
 {
-    *answer = read_numbers(text::read::read_table(text, table));
+    *answer = read_numbers(table_texts::read::read_table(text, table));
 }
 
 // Takes a table text and writes the listing of its answer into the front of `output`, as `text::compile::compile` does, which judges and

@@ -7,11 +7,11 @@ ghost use Rattle.expansions.specs.BlockTable.{blockTable};
 ghost use Rattle.expansions.specs.Charges.{byteCharge};
 ghost use Rattle.search.specs.Expansion.{answerExpansion, searchable, searched};
 ghost use Rattle.search.specs.inner.Search.{Limits, Given, Room};
-use crate::block_table::block_table;
 use crate::charges::byte_charges;
 use crate::expansion::Expansion;
 use crate::pairs::first_least;
 use crate::found::expansion_of;
+use blocks::block_table::block_table;
 use numbers::refusals::judge_sizes;
 use numbers::refusals::within_outputs;
 

@@ -2,7 +2,6 @@
 // The main property, for every table of 1 to 8 inputs and 1 to 8 outputs: what `calls::minimise` leaves in the lent buffers is a member of
 // the class that gives the table at every point, and every other member that gives it costs at least as much.
 pub mod answer;
-pub mod block_table;
 pub mod calls;
 mod charges;
 pub mod expansion;

@@ -12,19 +12,19 @@ use lib.ListN.{length, getD, set, replicate, length-replicate}
 use lib.Seq.{ext-getD, set-getD}
 use Rattle.numbers.specs.Bytes.{at}
 use Rattle.numbers.proofs.Bytes.{Filled, filled-none, filled-more}
-use Rattle.text.specs.declared.fields.Number.the-variants.{Is}
-use Rattle.text.specs.declared.lines.FirstLine.the-variants as first
-use Rattle.text.specs.declared.lines.LaterLine.the-variants.{On}
-use Rattle.text.specs.declared.read.ReadAnswer.the-variants as answer
-use Rattle.text.specs.declared.sizes.Sizes.{Sizes}
+use Rattle.table_texts.specs.declared.fields.Number.the-variants.{Is}
+use Rattle.table_texts.specs.declared.lines.FirstLine.the-variants as first
+use Rattle.table_texts.specs.declared.lines.LaterLine.the-variants.{On}
+use Rattle.table_texts.specs.declared.read.ReadAnswer.the-variants as answer
+use Rattle.table_texts.specs.declared.sizes.Sizes.{Sizes}
 use Rattle.listings.specs.Parts.{parts, bytes, same, fields}
-use Rattle.text.specs.Fields.{mixed}
-use Rattle.text.specs.Lines.{headed, firstLine, laterLine}
+use Rattle.table_texts.specs.Fields.{mixed}
+use Rattle.table_texts.specs.Lines.{headed, firstLine, laterLine}
 use Rattle.listings.specs.Listing.{tabbed, line, decimal, outputBytes}
 use Rattle.numbers.specs.Refusals.{Sized}
-use Rattle.text.specs.Accepted.{Table, Accepted}
-use Rattle.text.specs.Read.{Reading, given, ended, laterLines, judgedFirst, allLines, reading}
-use Rattle.text.proofs.read.Accepted.{getD-zeros}
+use Rattle.table_texts.specs.Accepted.{Table, Accepted}
+use Rattle.table_texts.specs.Read.{Reading, given, ended, laterLines, judgedFirst, allLines, reading}
+use Rattle.table_texts.proofs.read.Accepted.{getD-zeros}
 use Rattle.listings.proofs.Joined.{Plain, parts-fields, parts-lines}
 use Rattle.listings.proofs.Meaning.{plain-decimal, plain-outputs}
 use Rattle.numbers.proofs.Shifts.{points-le}

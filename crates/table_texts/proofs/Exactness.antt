@@ -12,21 +12,21 @@ use lib.Dec.{leb, ltb}
 use lib.ListN.{length, set, replicate, length-set, length-replicate}
 use lib.Seq.{getD-set-same, getD-set-other}
 use Rattle.numbers.specs.Bytes.{at}
-use Rattle.text.specs.declared.fields.Number.the-variants.{Is}
-use Rattle.text.specs.declared.lines.FirstLine.the-variants as first
-use Rattle.text.specs.declared.lines.FirstLine.{FirstLine}
-use Rattle.text.specs.declared.lines.LaterLine.the-variants.{On, End, Wrong}
-use Rattle.text.specs.declared.lines.LaterLine.{LaterLine}
-use Rattle.text.specs.declared.read.ReadAnswer.the-variants as answer
-use Rattle.text.specs.declared.read.ReadAnswer.{ReadAnswer}
-use Rattle.text.specs.declared.sizes.Sizes.{Sizes}
+use Rattle.table_texts.specs.declared.fields.Number.the-variants.{Is}
+use Rattle.table_texts.specs.declared.lines.FirstLine.the-variants as first
+use Rattle.table_texts.specs.declared.lines.FirstLine.{FirstLine}
+use Rattle.table_texts.specs.declared.lines.LaterLine.the-variants.{On, End, Wrong}
+use Rattle.table_texts.specs.declared.lines.LaterLine.{LaterLine}
+use Rattle.table_texts.specs.declared.read.ReadAnswer.the-variants as answer
+use Rattle.table_texts.specs.declared.read.ReadAnswer.{ReadAnswer}
+use Rattle.table_texts.specs.declared.sizes.Sizes.{Sizes}
 use Rattle.listings.specs.Parts.{parts, bytes}
-use Rattle.text.specs.Fields.{mixed}
-use Rattle.text.specs.Lines.{firstLine, laterLine}
+use Rattle.table_texts.specs.Fields.{mixed}
+use Rattle.table_texts.specs.Lines.{firstLine, laterLine}
 use Rattle.listings.specs.Listing.{tabbed, line, decimal, outputBytes}
-use Rattle.text.specs.Accepted.{Accepted}
-use Rattle.text.specs.Read.{given, refused, ended, judgedLater, laterLines, judgedFirst, opened, allLines, reading}
-use Rattle.text.proofs.read.Accepted.{no-refusal, unfinished-refused, refused-given, getD-zeros, first-sized, reading-accepted, sizes-given}
+use Rattle.table_texts.specs.Accepted.{Accepted}
+use Rattle.table_texts.specs.Read.{given, refused, ended, judgedLater, laterLines, judgedFirst, opened, allLines, reading}
+use Rattle.table_texts.proofs.read.Accepted.{no-refusal, unfinished-refused, refused-given, getD-zeros, first-sized, reading-accepted, sizes-given}
 use Rattle.numbers.proofs.Shifts.{points-le}
 use Rattle.numbers.proofs.Tests.{both-left, both-right}
 use Rattle.table_texts.specs.TableTexts.{pointLine, pointLines, sizesLine, textWith, tableText, dashText}

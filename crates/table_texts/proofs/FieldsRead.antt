@@ -9,12 +9,12 @@ use native.Mathlib.Omega.{arith}
 use borrow.Author.Tests.{leb-true, eqb-true, eqb-false, not-true}
 use lib.Dec.{leb, ltb, eqb}
 use lib.ListN.{length}
-use Rattle.text.specs.declared.fields.Number.the-variants.{Is, Wrong}
-use Rattle.text.specs.declared.fields.Number.{Number}
+use Rattle.table_texts.specs.declared.fields.Number.the-variants.{Is, Wrong}
+use Rattle.table_texts.specs.declared.fields.Number.{Number}
 use Rattle.listings.specs.Parts.{bytes, same}
-use Rattle.text.specs.Fields.{andThen, digit, oneDigit, mixed, digitsFrom, wellFormed, point, bits, outputs}
+use Rattle.table_texts.specs.Fields.{andThen, digit, oneDigit, mixed, digitsFrom, wellFormed, point, bits, outputs}
 use Rattle.listings.specs.Listing.{decimal, outputBytes}
-use Rattle.text.proofs.Numbers.{wrong-is, digit-lt, wellFormed-le}
+use Rattle.table_texts.proofs.Numbers.{wrong-is, digit-lt, wellFormed-le}
 use Rattle.numbers.proofs.Tests.{both-left, both-right}
 use Rattle.table_texts.proofs.Written.{decimal-one, decimal-two, decimal-three, outputs-cons, outputs-none}
 

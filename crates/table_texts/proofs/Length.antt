@@ -13,12 +13,12 @@ use lib.ListN.{length, take, replicate, length-append, length-replicate, getD-re
 use lib.Seq.{take-all}
 use Rattle.numbers.specs.Bytes.{at}
 use Rattle.numbers.specs.Sums.{foldBelow, sumBelow}
-use Rattle.text.specs.declared.sizes.Sizes.{Sizes}
-use Rattle.text.specs.Accepted.{Accepted}
+use Rattle.table_texts.specs.declared.sizes.Sizes.{Sizes}
+use Rattle.table_texts.specs.Accepted.{Accepted}
 use Rattle.listings.specs.Parts.{bytes}
 use Rattle.listings.specs.Listing.{tabbed, line, digitCount, decimal}
-use Rattle.text.specs.Read.{given, reading}
-use Rattle.text.proofs.read.Accepted.{reading-accepted}
+use Rattle.table_texts.specs.Read.{given, reading}
+use Rattle.table_texts.proofs.read.Accepted.{reading-accepted}
 use Rattle.listings.proofs.Characters.{length-decimal, length-outputs}
 use Rattle.listings.proofs.Longest.{digitCount-one}
 use Rattle.numbers.proofs.Shifts.{points-le}

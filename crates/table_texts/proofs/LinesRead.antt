@@ -8,16 +8,16 @@ use native.Mathlib.Omega.{arith}
 use borrow.Author.Tests.{eqb-true}
 use lib.Dec.{eqb}
 use lib.ListN.{length, getD}
-use Rattle.text.specs.declared.fields.Number.the-variants.{Is, Wrong}
-use Rattle.text.specs.declared.fields.Number.{Number}
-use Rattle.text.specs.declared.lines.FirstLine.the-variants as first
-use Rattle.text.specs.declared.lines.LaterLine.the-variants as later
-use Rattle.text.specs.declared.sizes.Sizes.{Sizes}
+use Rattle.table_texts.specs.declared.fields.Number.the-variants.{Is, Wrong}
+use Rattle.table_texts.specs.declared.fields.Number.{Number}
+use Rattle.table_texts.specs.declared.lines.FirstLine.the-variants as first
+use Rattle.table_texts.specs.declared.lines.LaterLine.the-variants as later
+use Rattle.table_texts.specs.declared.sizes.Sizes.{Sizes}
 use Rattle.listings.specs.Parts.{withByte, parts, bytes, same, fields, field}
-use Rattle.text.specs.Fields.{oneDigit, mixed, point, outputs}
-use Rattle.text.specs.Lines.{headed, tableLine, firstLine, onLine, laterLine}
+use Rattle.table_texts.specs.Fields.{oneDigit, mixed, point, outputs}
+use Rattle.table_texts.specs.Lines.{headed, tableLine, firstLine, onLine, laterLine}
 use Rattle.listings.specs.Listing.{tabbed, decimal, outputBytes}
-use Rattle.text.proofs.read.Accepted.{wrong-on, end-on}
+use Rattle.table_texts.proofs.read.Accepted.{wrong-on, end-on}
 use Rattle.numbers.proofs.Tests.{both-left, both-right}
 use Rattle.table_texts.proofs.FieldsRead.{same-equal, oneDigit-read, point-read, outputs-read}
 

@@ -12,9 +12,9 @@ use Rattle.numbers.specs.Bytes.{tabulate}
 use Rattle.numbers.specs.Bits.{bit}
 use Rattle.numbers.proofs.Bytes.{tabulate-ext}
 use Rattle.numbers.proofs.Bits.{bit-zero, bit-suc}
-use Rattle.text.specs.declared.fields.Number.the-variants.{Is}
+use Rattle.table_texts.specs.declared.fields.Number.the-variants.{Is}
 use Rattle.listings.specs.Parts.{bytes, same}
-use Rattle.text.specs.Fields.{digit, oneDigit, mixed, digitsFrom, wellFormed, point, bits, outputs}
+use Rattle.table_texts.specs.Fields.{digit, oneDigit, mixed, digitsFrom, wellFormed, point, bits, outputs}
 use Rattle.listings.specs.Listing.{descending, digitCount, decimal, outputBytes}
 use Rattle.listings.proofs.Characters.{length-outputs}
 use Rattle.listings.proofs.Cubes.{digitCount-bound}

@@ -3,7 +3,7 @@
 use mathlib.Core.List.{List, [], _∷_, _++_}
 use Prim.Native.Nat.{ℕ, zero, suc, _^_}
 use Rattle.numbers.specs.Bytes.{at}
-use Rattle.text.specs.declared.sizes.Sizes.{Sizes}
+use Rattle.table_texts.specs.declared.sizes.Sizes.{Sizes}
 use Rattle.listings.specs.Parts.{bytes}
 use Rattle.listings.specs.Listing.{line, decimal, outputBytes}
 

@@ -1,3 +1,7 @@
-// The text that is written for the sizes and the table of a design: laws alone, over the definitions of `specs/`. The main properties: it is
-// accepted and means just these sizes and this table (proofs/Acceptance, `table-text-accepted`); every accepted text is such a text
-// (proofs/Exactness, `accepted-text`); and an accepted text has at most 4,002 bytes (proofs/Length, `accepted-text-length`).
+// Table texts: the reading call, and what it accepts. The main property: the reading call gives the sizes and the table that a text means, or
+// its first refusal; and a text is accepted exactly where it is the text written for sizes and a table of document 01 (proofs/Exactness).
+mod cursor;
+mod fields;
+mod lines;
+pub mod read;
+pub mod sizes;

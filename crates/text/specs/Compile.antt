@@ -12,8 +12,8 @@ use Rattle.expansions.specs.Costs.{products, literals}
 use Rattle.search.specs.Expansion.{answerExpansion}
 use Rattle.text.specs.declared.compile.Compiled.{Compiled}
 use Rattle.text.specs.declared.compile.Compiled.the-variants.{Written, Refused}
-use Rattle.text.specs.declared.sizes.Sizes.{Sizes}
-use Rattle.text.specs.Read.{Reading, given, refused, reading}
+use Rattle.table_texts.specs.declared.sizes.Sizes.{Sizes}
+use Rattle.table_texts.specs.Read.{Reading, given, refused, reading}
 use Rattle.listings.specs.Listing.{listing}
 use Rattle.listings.specs.Meaning.{IsListing}
 

@@ -1,7 +1,3 @@
-pub mod Fields
-pub mod Lines
-pub mod Read
-pub mod Accepted
 pub mod Compile
-pub mod inner
 pub mod Print
+pub mod inner

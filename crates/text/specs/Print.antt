@@ -5,9 +5,9 @@ use mathlib.Core.Path.{_≡_}
 use Prim.Native.Nat.{ℕ, _-_, _≤_}
 use lib.ListN.{length, take, replicate}
 use Rattle.numbers.specs.Bytes.{at}
-use Rattle.text.specs.declared.sizes.Sizes.{Sizes}
+use Rattle.table_texts.specs.declared.sizes.Sizes.{Sizes}
 use Rattle.listings.specs.Parts.{bytes}
-use Rattle.text.specs.Read.{Reading, given, refused, reading}
+use Rattle.table_texts.specs.Read.{Reading, given, refused, reading}
 use Rattle.listings.specs.Listing.{line, decimal}
 use Rattle.listings.specs.Meaning.{firstNumbers, IsListing}
 use Rattle.text.specs.Compile.{answerListing}

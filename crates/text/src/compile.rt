@@ -1,17 +1,17 @@
 // The text call: it reads a table text, finds the cheapest expansion and writes its listing.
 // The main property, for every text and every buffer: the result and every byte of the buffer follow from what the text means, and where a
 // listing is written its own lines give every output of the table at every point, and no expansion of the class at that k is cheaper.
-use crate::read::ReadAnswer;
-use crate::sizes::Sizes;
-use crate::read::read_table;
 use crate::write::Listed;
 use crate::write::write_listing;
 use search::answer::find_answer;
+use table_texts::read::ReadAnswer;
+use table_texts::read::read_table;
+use table_texts::sizes::Sizes;
 ghost use mathlib.Core.Path.{_≡_};
 ghost use lib.ListN.{length};
-ghost use Rattle.text.specs.Read.{given};
+ghost use Rattle.table_texts.specs.Read.{given};
 ghost use Rattle.text.specs.Compile.{compiled, bufferAfter, Compile};
-ghost use Rattle.text.specs.Accepted.{Accepted};
+ghost use Rattle.table_texts.specs.Accepted.{Accepted};
 
 // The text call's answer: the length of the listing that was written, or declined with document 01's number and line.
 pub enum Compiled {

@@ -1,10 +1,5 @@
-// The text layer: from a table text to the listing of the answer.
+// The text layer's calls: from a table text to the listing of the answer, and to what the program prints.
 pub mod compile;
-mod cursor;
-mod fields;
-mod lines;
 pub mod print;
-pub mod read;
-pub mod sizes;
 mod write;
 mod writer;

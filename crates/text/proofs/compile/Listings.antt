@@ -11,16 +11,16 @@ use lib.Seq.{take-append-seam}
 use Rattle.numbers.specs.Bytes.{at}
 use Rattle.search.specs.Expansion.{answerExpansion}
 use Rattle.search.proofs.expansion.Answer.{answerExpansion-is, expansion-coefficients-lt}
-use Rattle.text.specs.declared.sizes.Sizes.{Sizes}
-use Rattle.text.specs.declared.read.ReadAnswer.{ReadAnswer}
-use Rattle.text.specs.declared.read.ReadAnswer.the-variants as answer
+use Rattle.table_texts.specs.declared.sizes.Sizes.{Sizes}
+use Rattle.table_texts.specs.declared.read.ReadAnswer.{ReadAnswer}
+use Rattle.table_texts.specs.declared.read.ReadAnswer.the-variants as answer
 use Rattle.text.specs.declared.compile.Compiled.{Compiled}
 use Rattle.text.specs.declared.compile.Compiled.the-variants.{Written, Refused}
-use Rattle.text.specs.Accepted.{Accepted}
-use Rattle.text.specs.Read.{Reading, given, refused, reading, standsFor}
+use Rattle.table_texts.specs.Accepted.{Accepted}
+use Rattle.table_texts.specs.Read.{Reading, given, refused, reading, standsFor}
 use Rattle.text.specs.Compile.{answerListing, compiled, bufferAfter, Compile}
 use Rattle.listings.specs.Meaning.{IsListing}
-use Rattle.text.proofs.read.Accepted.{reading-accepted}
+use Rattle.table_texts.proofs.read.Accepted.{reading-accepted}
 use Rattle.listings.proofs.ListedAnswers.{answer-listed}
 
 -- ---- the listing of the answer

@@ -16,13 +16,13 @@ use Rattle.numbers.proofs.refusals.Outputs.{below-from}
 use Rattle.search.specs.Expansion.{answerExpansion, searched}
 use Rattle.search.proofs.expansion.Answer.{answerExpansion-is, answerExpansion-ext}
 use Rattle.search.proofs.answer.Searchable.{searched-answer}
-use Rattle.text.specs.declared.sizes.Sizes.{Sizes}
+use Rattle.table_texts.specs.declared.sizes.Sizes.{Sizes}
 use Rattle.text.specs.declared.write.Listed.{Listed}
 use Rattle.text.specs.declared.write.Listed.the-variants as listed
 use Rattle.text.specs.declared.compile.Compiled.{Compiled}
 use Rattle.text.specs.declared.compile.Compiled.the-variants.{Written, Refused}
-use Rattle.text.specs.Accepted.{Accepted}
-use Rattle.text.specs.Read.{given}
+use Rattle.table_texts.specs.Accepted.{Accepted}
+use Rattle.table_texts.specs.Read.{given}
 use Rattle.listings.specs.Listing.{Listable}
 use Rattle.text.specs.inner.Write.{WriteListing}
 use Rattle.text.specs.Compile.{answerListing, compiled, bufferAfter}

@@ -7,17 +7,17 @@ use Prim.Native.Nat.{ℕ, zero, suc, _+_, _^_, _<_, _≤_}
 use native.Mathlib.Omega.{arith}
 use lib.Dec.{eqb, leb, ltb, lit<}
 use lib.ListN.{length, set, replicate, length-append, length-take}
-use Rattle.text.specs.declared.lines.FirstLine.the-variants as first
-use Rattle.text.specs.declared.lines.FirstLine.{FirstLine}
-use Rattle.text.specs.declared.lines.LaterLine.the-variants.{On, End, Wrong}
-use Rattle.text.specs.declared.lines.LaterLine.{LaterLine}
-use Rattle.text.specs.declared.read.ReadAnswer.the-variants as answer
-use Rattle.text.specs.declared.sizes.Sizes.{Sizes}
+use Rattle.table_texts.specs.declared.lines.FirstLine.the-variants as first
+use Rattle.table_texts.specs.declared.lines.FirstLine.{FirstLine}
+use Rattle.table_texts.specs.declared.lines.LaterLine.the-variants.{On, End, Wrong}
+use Rattle.table_texts.specs.declared.lines.LaterLine.{LaterLine}
+use Rattle.table_texts.specs.declared.read.ReadAnswer.the-variants as answer
+use Rattle.table_texts.specs.declared.sizes.Sizes.{Sizes}
 use Rattle.listings.specs.Parts.{withByte, parts, bytes}
-use Rattle.text.specs.Lines.{firstLine, laterLine}
+use Rattle.table_texts.specs.Lines.{firstLine, laterLine}
 use Rattle.listings.specs.Listing.{tabbed, line, decimal}
 use Rattle.listings.specs.Meaning.{firstNumbers}
-use Rattle.text.specs.Read.{Reading, given, refused, unfinished, ended, judgedLater, laterLines, sizesJudged, judgedFirst, opened, allLines, reading}
+use Rattle.table_texts.specs.Read.{Reading, given, refused, unfinished, ended, judgedLater, laterLines, sizesJudged, judgedFirst, opened, allLines, reading}
 use Rattle.numbers.specs.Refusals.{sizesRefusal}
 use Rattle.numbers.proofs.refusals.Judging.{sizes-most}
 use Rattle.text.specs.Print.{judged, refusedLine}

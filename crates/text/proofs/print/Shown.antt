@@ -12,16 +12,16 @@ use lib.Seq.{take-append-seam, drop-at}
 use Rattle.numbers.specs.Bytes.{at}
 use Rattle.search.specs.Expansion.{answerExpansion}
 use Rattle.search.proofs.expansion.Answer.{answerExpansion-is}
-use Rattle.text.specs.declared.sizes.Sizes.{Sizes}
+use Rattle.table_texts.specs.declared.sizes.Sizes.{Sizes}
 use Rattle.text.specs.declared.compile.Compiled.{Compiled}
 use Rattle.text.specs.declared.compile.Compiled.the-variants.{Written, Refused}
-use Rattle.text.specs.Accepted.{Accepted}
-use Rattle.text.specs.Read.{Reading, given, refused, reading}
+use Rattle.table_texts.specs.Accepted.{Accepted}
+use Rattle.table_texts.specs.Read.{Reading, given, refused, reading}
 use Rattle.text.specs.inner.Write.{Put}
 use Rattle.listings.specs.Meaning.{firstNumbers, IsListing}
 use Rattle.text.specs.Compile.{answerListing, compiled, bufferAfter, Compile}
 use Rattle.text.specs.Print.{judged, refusedLine, printedFor, printed, Print}
-use Rattle.text.proofs.read.Accepted.{reading-accepted}
+use Rattle.table_texts.proofs.read.Accepted.{reading-accepted}
 use Rattle.listings.proofs.Longest.{listing-longest}
 use Rattle.text.proofs.writer.Puts.{put-front}
 use Rattle.text.proofs.compile.Listings.{answer-listing}

@@ -1,8 +1,8 @@
 -- `compile` meets its contract: the text is refused, or its table is compiled.
 use borrow.Author.Needs.{needs}
 use mathlib.Core.Path.{_≡_, refl}
-use Rattle.text.specs.Read.{reading, standsFor}
-use Rattle.text.proofs.read.Accepted.{reading-accepted, read-whole}
+use Rattle.table_texts.specs.Read.{reading, standsFor}
+use Rattle.table_texts.proofs.read.Accepted.{reading-accepted, read-whole}
 use Rattle.text.proofs.compile.Listings.{reads-given, compile-given, compile-refused}
 use Rattle.text.proofs.compile.compile.Statement.{statement}
 use Rattle.text.proofs.compile.compile.Tie as tie
