@@ -1,7 +1,7 @@
 -- Every row of the table of marked designs holds (`designs-hold`): one test over all rows, which the checker computes, and a law that turns
 -- it into the fact at each. Of the last design's rows it follows that a larger k can be dearer (`larger-k-dearer`).
 use mathlib.Core.Path.{_≡_, refl, ap₂}
-use mathlib.Core.Bool.{Bool, true, false, _&&_}
+use mathlib.Core.Bool.{Bool, true, _&&_}
 use mathlib.Core.List.{List, [], _∷_, List·Memᴰ, List·Memᴰ·not-nil, List·Memᴰ·cases-cons, List·Memᴰ·head, List·Memᴰ·tail}
 use mathlib.Core.Logic.{_⊎_, inl, inr}
 use Prim.Native.Nat.{ℕ, _<_}
