@@ -1,0 +1,100 @@
+-- Every row of the table of marked designs holds (`designs-hold`): one test over all rows, which the checker computes, and a law that turns
+-- it into the fact at each. Of the last design's rows it follows that a larger k can be dearer (`larger-k-dearer`).
+use mathlib.Core.Path.{_≡_, refl, ap₂}
+use mathlib.Core.Bool.{Bool, true, _&&_}
+use mathlib.Core.List.{List, [], _∷_, List·Memᴰ, List·Memᴰ·not-nil, List·Memᴰ·cases-cons, List·Memᴰ·head, List·Memᴰ·tail}
+use mathlib.Core.Logic.{_⊎_, inl, inr}
+use Prim.Native.Nat.{ℕ, _<_}
+use native.Mathlib.Omega.{arith}
+use lib.Count.{onesIn, ones}
+use lib.Dec.{T, eqb, eqb→eq}
+use Rattle.numbers.specs.Bytes.{at, tabulate}
+use Rattle.numbers.specs.Sums.{foldBelow}
+use Rattle.numbers.specs.Bits.{inside, pack}
+use Rattle.numbers.specs.Tests.{only}
+use Rattle.numbers.specs.Refusals.{tableRefusal, sizesRefusal}
+use Rattle.numbers.proofs.Tests.{and-left, and-right}
+use Rattle.algebra.specs.Coefficients.{xorInside, coefficient}
+use Rattle.expansions.specs.Split.{putDigit, lowDigit, dropDigit, gather, spread, outside, join}
+use Rattle.expansions.specs.Members.{polarity}
+use Rattle.expansions.specs.Costs.{counted, weight, products, literals}
+use Rattle.expansions.specs.Least.{better, firstLeast, chosen}
+use Rattle.expansions.specs.BlockTable.{entry}
+use Rattle.expansions.specs.Answers.{blockFunction, memberCoefficient, blockCharge, leastPolarity, pairCharge, validPair, leastPair}
+use Rattle.expansions.specs.Answers.{answerPair, answerMixed, answerFixed, answerPolarity, answerCoefficient}
+use Rattle.search.specs.Expansion.{answerExpansion}
+use Rattle.listings.specs.Parts.{parts, fields, bytes, same}
+use Rattle.listings.specs.Listing.{tabbed, line, descending, digitCount, decimal, cubeByte, cube, outputBytes, formLine, termLine, ifProduct, termLines, listing}
+use Rattle.listings.specs.Meaning.{allows, cubeTrue, literalsIn, outputsSaid, finished, linesOf, ofTerm, overLines, overTerms}
+use Rattle.listings.specs.Meaning.{listingValue, listingProducts, listingLiterals, numberSaid, firstNumbers}
+use Rattle.table_texts.specs.Fields.{digit, oneDigit, mixed, digitsFrom, wellFormed, point, bits, outputs}
+use Rattle.table_texts.specs.Lines.{headed, firstLine, laterLine}
+use Rattle.table_texts.specs.Read.{unfinished, ended, laterLines, judgedFirst, allLines, reading}
+use Rattle.text.specs.Compile.{answerListing}
+use Rattle.text.specs.Print.{refusedLine, printedFor, printed}
+use Rattle.designs.specs.Designs.{costOf, termsBelow, computed, Design, states, Holds, markedDesigns, orTable, zeroTable, oneTable, pointTable, withoutTable, printedTable}
+
+-- ---- the test
+
+same-is : (xs ys : List ℕ) → T (same xs ys) → xs ≡ ys
+unfolding same
+same-is [] [] t = refl
+same-is [] (y ∷ ys) t = absurd t
+same-is (x ∷ xs) [] t = absurd t
+same-is (x ∷ xs) (y ∷ ys) t =
+    ap₂ _∷_ (eqb→eq x y (and-left (eqb x y) (same xs ys) t)) (same-is xs ys (and-right (eqb x y) (same xs ys) t))
+
+-- the definitions give the numbers that are stated
+unfoldable agrees : Design → Bool
+agrees (states asked stated) = same (computed asked) stated
+
+unfoldable allAgree : List Design → Bool
+allAgree [] = true
+allAgree (d ∷ ds) = agrees d && allAgree ds
+
+-- ---- the rows
+
+agrees-holds : (d : Design) → T (agrees d) → Holds d
+unfolding agrees
+agrees-holds (states asked stated) t = same-is (computed asked) stated t
+
+all-hold : (ds : List Design) → T (allAgree ds) → (d : Design) → List·Memᴰ d ds → Holds d
+unfolding allAgree
+all-hold [] t d m = absurd (List·Memᴰ·not-nil m)
+all-hold (e ∷ ds) t d m = go (all-hold ds (and-right (agrees e) (allAgree ds) t) d) (List·Memᴰ·cases-cons m)
+  where
+    go : (List·Memᴰ d ds → Holds d) → (d ≡ e) ⊎ List·Memᴰ d ds → Holds d
+    go rest (inl p) = agrees-holds d (rw p (and-left (agrees e) (allAgree ds) t))
+    go rest (inr l) = rest l
+
+all-agree : T (allAgree markedDesigns)
+unfolding same agrees allAgree markedDesigns computed termsBelow orTable zeroTable oneTable pointTable withoutTable printedTable
+    foldBelow inside pack only tabulate tableRefusal sizesRefusal onesIn ones xorInside coefficient entry
+    putDigit lowDigit dropDigit gather spread outside join polarity counted weight products literals better firstLeast chosen
+    blockFunction memberCoefficient blockCharge leastPolarity pairCharge validPair leastPair
+    answerPair answerMixed answerFixed answerPolarity answerCoefficient answerExpansion
+    parts fields bytes tabbed line descending digitCount decimal cubeByte cube outputBytes formLine termLine ifProduct termLines listing
+    allows cubeTrue literalsIn outputsSaid finished linesOf ofTerm overLines overTerms listingValue listingProducts listingLiterals
+    numberSaid firstNumbers digit oneDigit mixed digitsFrom wellFormed point bits outputs headed firstLine laterLine
+    unfinished ended laterLines judgedFirst allLines reading answerListing refusedLine printedFor printed
+all-agree = tt
+
+pub designs-hold : (d : Design) → List·Memᴰ d markedDesigns → Holds d
+designs-hold = all-hold markedDesigns all-agree
+
+-- ---- a larger k can be dearer
+
+module _ (k cost : ℕ) where
+  row : Design
+  row = states (costOf 2 k withoutTable) (cost ∷ 3 ∷ [])
+
+  row-products : List·Memᴰ row markedDesigns → products 2 (answerCoefficient 2 k (at withoutTable)) ≡ cost
+  unfolding row computed
+  row-products m = let costs = designs-hold row m in cc
+
+pub larger-k-dearer : products 2 (answerCoefficient 2 1 (at withoutTable)) < products 2 (answerCoefficient 2 2 (at withoutTable))
+unfolding markedDesigns row
+larger-k-dearer =
+    let one = row-products 1 2 (search (List·Memᴰ·head, List·Memᴰ·tail) depth 20) in
+    let two = row-products 2 3 (search (List·Memᴰ·head, List·Memᴰ·tail) depth 20) in
+    omega arith

@@ -1,0 +1,246 @@
+-- Document 01, "Marked designs", its printed example, the limits that it names and some worked texts and listings, as one table: "The marked
+-- designs form one proved table over the definitions with a shared statement". A row is a question about the definitions and the numbers
+-- that document 01 answers it with; bytes are numbers too. The one statement is that they are equal, at every row (proofs/Designs,
+-- `designs-hold`).
+use mathlib.Core.List.{List, [], _∷_, _++_}
+use mathlib.Core.Path.{_≡_}
+use Prim.Native.Nat.{ℕ, zero, suc, _^_}
+use Prim.Native.String.{String}
+use lib.ListN.{set, replicate}
+use Rattle.numbers.specs.Bytes.{at, tabulate}
+use Rattle.algebra.specs.Coefficients.{coefficient}
+use Rattle.expansions.specs.Costs.{products, literals}
+use Rattle.expansions.specs.BlockTable.{entry}
+use Rattle.expansions.specs.Answers.{answerMixed, answerFixed, answerCoefficient}
+use Rattle.search.specs.declared.expansion.Expansion.{Expansion}
+use Rattle.listings.specs.Parts.{bytes}
+use Rattle.listings.specs.Listing.{listing}
+use Rattle.listings.specs.Meaning.{listingValue, listingProducts, listingLiterals, firstNumbers}
+use Rattle.table_texts.specs.Read.{Reading, given, refused, reading}
+use Rattle.text.specs.Print.{printed}
+
+-- ---- questions
+
+-- what a row asks
+pub data Asked : Type 0 where
+  -- the terms of a table of n inputs at the polarity w
+  termsAt : (n w : ℕ) → List ℕ → Asked
+  -- entry (g, φ) of the block table
+  entryAt : (g φ : ℕ) → Asked
+  -- M, i, products and literals of the answer for a table of n inputs with k mixed
+  answerFor : (n k : ℕ) → List ℕ → Asked
+  -- its products and literals
+  costOf : (n k : ℕ) → List ℕ → Asked
+  -- what a table text means
+  meaningOf : String → Asked
+  -- what the program prints for a text: the listing of the answer, or the line `refused`
+  printedOf : String → Asked
+  -- the listing of a record of n inputs, m outputs and k mixed inputs
+  listingOf : (n m k : ℕ) → Expansion → Asked
+  -- the numbers on the first line of a listing
+  firstLineOf : String → Asked
+  -- the products and the literals of a listing, counted on its `term` lines
+  countsOf : String → Asked
+  -- the table of n inputs that a listing gives, read from its own lines
+  tableOf : (n : ℕ) → String → Asked
+
+-- the terms below N that have a coefficient, ascending
+unfoldable pub termsBelow : ℕ → (ℕ → ℕ) → List ℕ
+termsBelow zero c = []
+termsBelow (suc N) c = elim (c N) [ zero ↦ termsBelow N c | suc x ↦ termsBelow N c ++ (N ∷ []) ]
+
+-- the products and literals of the answer
+abbrev pub costs : ℕ → ℕ → List ℕ → List ℕ
+costs n k table = products n (answerCoefficient n k (at table)) ∷ literals n (answerCoefficient n k (at table)) ∷ []
+
+-- an accepted text: n, m, k and the 256 bytes of its table
+abbrev pub accepted : (n m k : ℕ) → List ℕ → List ℕ
+accepted n m k table = n ∷ m ∷ k ∷ table
+
+-- a refused text: "A refusal returns its number and the line"
+abbrev pub refusal : (number line : ℕ) → List ℕ
+refusal number line = number ∷ line ∷ []
+
+-- what a text means, in numbers: two under a refusal, and more where it is accepted
+abbrev pub meaning : Reading → List ℕ
+meaning (given sizes table) = accepted (sizes .n) (sizes .m) (sizes .k) table
+meaning (refused number line) = refusal number line
+
+-- the numbers that the definitions give
+unfoldable pub computed : Asked → List ℕ
+computed (termsAt n w table) = termsBelow (2 ^ n) (coefficient n w (at table))
+computed (entryAt g φ) = entry g φ ∷ []
+computed (answerFor n k table) = answerMixed n k (at table) ∷ answerFixed n k (at table) ∷ costs n k table
+computed (costOf n k table) = costs n k table
+computed (meaningOf text) = meaning (reading (bytes text))
+computed (printedOf text) = printed (bytes text)
+computed (listingOf n m k e) = listing n m k e
+computed (firstLineOf text) = firstNumbers (bytes text)
+computed (countsOf text) = listingProducts (bytes text) ∷ listingLiterals (bytes text) ∷ []
+computed (tableOf n text) = tabulate (2 ^ n) (listingValue (bytes text))
+
+-- a row: what is asked, and the numbers that document 01 answers with
+pub data Design : Type 0 where
+  states : Asked → List ℕ → Design
+
+-- what a row says
+abbrev pub Holds : Design → Type 0
+Holds (states asked stated) = computed asked ≡ stated
+
+-- ---- tables, texts and records
+
+-- "OR of two inputs (points 1, 2, 3)"
+unfoldable pub orTable : List ℕ
+orTable = 0 ∷ 1 ∷ 1 ∷ 1 ∷ []
+
+-- "All zero .. at n = 2"
+unfoldable pub zeroTable : List ℕ
+zeroTable = 0 ∷ 0 ∷ 0 ∷ 0 ∷ []
+
+-- "All one, m = 1 .. at n = 2"
+unfoldable pub oneTable : List ℕ
+oneTable = 1 ∷ 1 ∷ 1 ∷ 1 ∷ []
+
+-- "n = 1, only point 0 on"
+unfoldable pub pointTable : List ℕ
+pointTable = 1 ∷ 0 ∷ []
+
+-- "Output 0 is x1, output 1 is x2 without x1 (n = 2)"
+unfoldable pub withoutTable : List ℕ
+withoutTable = 0 ∷ 1 ∷ 2 ∷ 1 ∷ []
+
+-- the table of the text that is printed in document 01, "Text in, listing out"
+unfoldable pub printedTable : List ℕ
+printedTable = 2 ∷ 1 ∷ 1 ∷ 1 ∷ []
+
+-- that text: "Given this (a space stands for each tab)"
+abbrev pub printedText : String
+printedText = "table\t2\t2\t1\non\t0\t01\non\t1\t10\non\t2\t10\non\t3\t10\nend\n"
+
+-- the listing beside it: "it prints"
+abbrev pub printedListing : String
+printedListing = "form\t2\t2\t1\t1\t2\t2\t2\nterm\t--\t10\nterm\t00\t11\nend\n"
+
+-- the listing of the all-zero table at k = 2
+abbrev pub zeroListing : String
+zeroListing = "form\t2\t1\t2\t3\t0\t0\t0\nend\n"
+
+-- the listing of the all-one table at k = 0
+abbrev pub oneListing : String
+oneListing = "form\t2\t1\t0\t0\t0\t1\t0\nterm\t--\t1\nend\n"
+
+-- the listing of n = 1, only point 0 on
+abbrev pub pointListing : String
+pointListing = "form\t1\t1\t0\t0\t1\t1\t1\nterm\t0\t1\nend\n"
+
+-- the listing of OR at k = 0 and i = 0, which is not its answer
+abbrev pub orListing : String
+orListing = "form\t2\t1\t0\t0\t0\t3\t4\nterm\t-1\t1\nterm\t1-\t1\nterm\t11\t1\nend\n"
+
+-- the listing of one product of four inputs
+abbrev pub fourListing : String
+fourListing = "form\t4\t1\t0\t0\t10\t1\t4\nterm\t0101\t1\nend\n"
+
+-- 256 bytes, all zero: "Points not listed are all zero."
+abbrev pub zeros : List ℕ
+zeros = replicate 256 0
+
+-- a record by its coefficients, its block polarities, M, i, products and literals
+abbrev pub recorded : (c φ : List ℕ) (M i products literals : ℕ) → Expansion
+recorded c φ M i p l = record { coefficients = c; blocks = φ; mixed = M; fixed = i; products = p; literals = l }
+
+-- ---- the table
+
+-- the marked designs, the printed example, texts by what they mean, and listings by what they say
+unfoldable pub markedDesigns : List Design
+markedDesigns =
+    -- "terms at w = 0 are 1, 2, 3; at w = 1 are 0, 1, 3; at w = 2 are 0, 2, 3; at w = 3 are 0, 3"
+    states (termsAt 2 0 orTable) (1 ∷ 2 ∷ 3 ∷ [])
+    ∷ states (termsAt 2 1 orTable) (0 ∷ 1 ∷ 3 ∷ [])
+    ∷ states (termsAt 2 2 orTable) (0 ∷ 2 ∷ 3 ∷ [])
+    ∷ states (termsAt 2 3 orTable) (0 ∷ 3 ∷ [])
+    -- "(150, 0) is 22; (150, 7) is 23; (136, 0) is 8; (12, 5) is 64"
+    ∷ states (entryAt 150 0) (22 ∷ [])
+    ∷ states (entryAt 150 7) (23 ∷ [])
+    ∷ states (entryAt 136 0) (8 ∷ [])
+    ∷ states (entryAt 12 5) (64 ∷ [])
+    -- "M = 2^k − 1, i = 0, 0 products", and so 0 literals
+    ∷ states (answerFor 2 0 zeroTable) (0 ∷ 0 ∷ 0 ∷ 0 ∷ [])
+    ∷ states (answerFor 2 1 zeroTable) (1 ∷ 0 ∷ 0 ∷ 0 ∷ [])
+    ∷ states (answerFor 2 2 zeroTable) (3 ∷ 0 ∷ 0 ∷ 0 ∷ [])
+    -- "one product, 0 literals"
+    ∷ states (costOf 2 0 oneTable) (1 ∷ 0 ∷ [])
+    ∷ states (costOf 2 1 oneTable) (1 ∷ 0 ∷ [])
+    ∷ states (costOf 2 2 oneTable) (1 ∷ 0 ∷ [])
+    -- "n = 1, only point 0 on, k = 0: i = 1, 1 product, 1 literal", and M = 0
+    ∷ states (answerFor 1 0 pointTable) (0 ∷ 1 ∷ 1 ∷ 1 ∷ [])
+    -- "k = 1 costs 2 products, 3 literals; k = 0 and k = 2 cost 3 and 3"
+    ∷ states (costOf 2 1 withoutTable) (2 ∷ 3 ∷ [])
+    ∷ states (costOf 2 0 withoutTable) (3 ∷ 3 ∷ [])
+    ∷ states (costOf 2 2 withoutTable) (3 ∷ 3 ∷ [])
+    -- `form 2 2 1 1 2 2 2`
+    ∷ states (answerFor 2 1 printedTable) (1 ∷ 2 ∷ 2 ∷ 2 ∷ [])
+    -- the printed example, from its text to its listing, byte for byte
+    ∷ states (printedOf printedText) (bytes printedListing)
+    -- likewise all zero at k = 2, all one at k = 0, and n = 1 with only point 0 on
+    ∷ states (printedOf "table\t2\t1\t2\nend\n") (bytes zeroListing)
+    ∷ states (printedOf "table\t2\t1\t0\non\t0\t1\non\t1\t1\non\t2\t1\non\t3\t1\nend\n") (bytes oneListing)
+    ∷ states (printedOf "table\t1\t1\t0\non\t0\t1\nend\n") (bytes pointListing)
+    -- "the line `refused`, number, line"
+    ∷ states (printedOf "table\t2\t1\t1\non\t1\t1\non\t1\t1\nend\n") (bytes "refused\t5\t3\n")
+    -- the reading call "fills a lent table of 256 bytes, zero from 2^n on, and returns n, m, k"
+    ∷ states (meaningOf printedText) (accepted 2 2 1 (printedTable ++ replicate 252 0))
+    -- "Empty text is refusal 6, line 1."
+    ∷ states (meaningOf "") (refusal 6 1)
+    -- "n = 8 with point 255 is accepted, 256 is refusal 5."
+    ∷ states (meaningOf "table\t8\t1\t0\non\t255\t1\nend\n") (accepted 8 1 0 (set zeros 255 1))
+    ∷ states (meaningOf "table\t8\t1\t0\non\t256\t1\nend\n") (refusal 5 2)
+    -- "n = 2, k = 2 is accepted, n = 2, k = 3 is refusal 4."
+    ∷ states (meaningOf "table\t2\t1\t2\nend\n") (accepted 2 1 2 zeros)
+    ∷ states (meaningOf "table\t2\t1\t3\nend\n") (refusal 4 1)
+    -- "k may be `-`, which means 1"
+    ∷ states (meaningOf "table\t2\t1\t-\nend\n") (accepted 2 1 1 zeros)
+    -- "In line 1 the order is 1, 2, 3, 4."
+    ∷ states (meaningOf "table\t9\t9\tx\nend\n") (refusal 1 1)
+    ∷ states (meaningOf "table\t9\t9\t9\nend\n") (refusal 2 1)
+    ∷ states (meaningOf "table\t8\t9\t9\nend\n") (refusal 3 1)
+    -- refusal 1 comes before refusal 5; "no leading zero (but `0`)"
+    ∷ states (meaningOf "table\t2\t2\t1\non\t300\t12\nend\n") (refusal 1 2)
+    ∷ states (meaningOf "table\t2\t1\t1\non\t01\t1\nend\n") (refusal 1 2)
+    -- "A point is 2^n or more, or not above the one before."
+    ∷ states (meaningOf "table\t2\t1\t1\non\t1\t1\non\t1\t1\nend\n") (refusal 5 3)
+    -- "bytes follow `end`", "a missing byte 10", and "The text stops where a line should begin and no `end` line has come"
+    ∷ states (meaningOf "table\t2\t1\t1\nend\n\n") (refusal 6 3)
+    ∷ states (meaningOf "table\t2\t1\t1\nend") (refusal 1 2)
+    ∷ states (meaningOf "table\t2\t1\t1\n") (refusal 6 2)
+    -- the printed example's record, its listing, and what the listing says
+    ∷ states (listingOf 2 2 1 (recorded (1 ∷ 0 ∷ 0 ∷ 3 ∷ []) (0 ∷ 1 ∷ []) 1 2 2 2)) (bytes printedListing)
+    ∷ states (firstLineOf printedListing) (2 ∷ 2 ∷ 1 ∷ 1 ∷ 2 ∷ 2 ∷ 2 ∷ [])
+    ∷ states (countsOf printedListing) (2 ∷ 2 ∷ [])
+    ∷ states (tableOf 2 printedListing) printedTable
+    -- all zero at k = 2
+    ∷ states (listingOf 2 1 2 (recorded [] [] 3 0 0 0)) (bytes zeroListing)
+    ∷ states (firstLineOf zeroListing) (2 ∷ 1 ∷ 2 ∷ 3 ∷ 0 ∷ 0 ∷ 0 ∷ [])
+    ∷ states (countsOf zeroListing) (0 ∷ 0 ∷ [])
+    ∷ states (tableOf 2 zeroListing) zeroTable
+    -- all one at k = 0
+    ∷ states (listingOf 2 1 0 (recorded (1 ∷ []) [] 0 0 1 0)) (bytes oneListing)
+    ∷ states (firstLineOf oneListing) (2 ∷ 1 ∷ 0 ∷ 0 ∷ 0 ∷ 1 ∷ 0 ∷ [])
+    ∷ states (countsOf oneListing) (1 ∷ 0 ∷ [])
+    ∷ states (tableOf 2 oneListing) oneTable
+    -- n = 1, only point 0 on
+    ∷ states (listingOf 1 1 0 (recorded (0 ∷ 1 ∷ []) [] 0 1 1 1)) (bytes pointListing)
+    ∷ states (firstLineOf pointListing) (1 ∷ 1 ∷ 0 ∷ 0 ∷ 1 ∷ 1 ∷ 1 ∷ [])
+    ∷ states (countsOf pointListing) (1 ∷ 1 ∷ [])
+    ∷ states (tableOf 1 pointListing) pointTable
+    -- OR of two inputs at w = 0
+    ∷ states (listingOf 2 1 0 (recorded (0 ∷ 1 ∷ 1 ∷ 1 ∷ []) [] 0 0 3 4)) (bytes orListing)
+    ∷ states (firstLineOf orListing) (2 ∷ 1 ∷ 0 ∷ 0 ∷ 0 ∷ 3 ∷ 4 ∷ [])
+    ∷ states (countsOf orListing) (3 ∷ 4 ∷ [])
+    ∷ states (tableOf 2 orListing) orTable
+    -- one product of four inputs, with a number of two digits
+    ∷ states (listingOf 4 1 0 (recorded (set (replicate 16 0) 15 1) [] 0 10 1 4)) (bytes fourListing)
+    ∷ states (firstLineOf fourListing) (4 ∷ 1 ∷ 0 ∷ 0 ∷ 10 ∷ 1 ∷ 4 ∷ [])
+    ∷ states (countsOf fourListing) (1 ∷ 4 ∷ [])
+    ∷ states (tableOf 4 fourListing) (set (replicate 16 0) 5 1)
+    ∷ []
