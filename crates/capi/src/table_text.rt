@@ -1,7 +1,7 @@
 // The reading call and the text call. The reading call's answer is five numbers: the refusal's number and its line, n, m and k. The text
 // call's answer is three: the refusal's number and its line, and the listing's length.
-use text::compile::Compiled;
 use table_texts::read::ReadAnswer;
+use text::compile::Compiled;
 ghost use mathlib.Core.List.{List};
 ghost use mathlib.Core.Path.{_≡_};
 ghost use Prim.Native.Nat.{ℕ};

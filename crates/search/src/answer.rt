@@ -9,8 +9,8 @@ ghost use Rattle.search.specs.Expansion.{answerExpansion, searchable, se
 ghost use Rattle.search.specs.inner.Search.{Limits, Given, Room};
 use crate::charges::byte_charges;
 use crate::expansion::Expansion;
-use crate::pairs::first_least;
 use crate::found::expansion_of;
+use crate::pairs::first_least;
 use blocks::block_table::block_table;
 use numbers::refusals::judge_sizes;
 use numbers::refusals::within_outputs;

@@ -1,6 +1,6 @@
 -- An accepted text is the text that is written for its own sizes and its own table, with the digit k, or where k is 1 with `-`
 -- (`accepted-text`). So just these texts are accepted (`accepted-exactly`).
-use mathlib.Core.Bool.{Bool, true, false, cond, _&&_, _||_}
+use mathlib.Core.Bool.{Bool, true, false, cond, _&&_}
 use mathlib.Core.List.{List, [], _∷_, _++_, append-assoc}
 use mathlib.Core.Logic.{_⊎_, inl, inr, _↔_}
 use mathlib.Core.Path.{_≡_, refl, sym, ap, ap₂, subst, _∙_}

@@ -30,7 +30,13 @@ enum Step {
 }
 
 // Puts a point's outputs into the table, if the point is below 2^n and at least `least`; else the table stays.
-fn put_outputs(n: usize, least: usize, point: usize, outputs: usize, table: &mut [u8; Sizes::TABLE]) -> bool
+fn put_outputs(
+    n: usize,
+    least: usize,
+    point: usize,
+    outputs: usize,
+    table: &mut [u8; Sizes::TABLE],
+) -> bool
     requires { ⌜ (n ≤ 8) × (outputs < 256) ⌝ }
     ensures { λ r. ⌜ r ≡ (ltb point (2 ^ n) && leb least point) ⌝ }
     ensures { λ r. ⌜ now (table .exit) ≡ cond r (set (now (table .entry)) point outputs) (now (table .entry)) ⌝ }
@@ -94,7 +100,12 @@ fn judge_line(
 }
 
 // Judges the lines from the cursor on, and puts their outputs into the table.
-fn judge_lines(text: &[u8], start: Cursor, sizes: Sizes, table: &mut [u8; Sizes::TABLE]) -> ReadAnswer
+fn judge_lines(
+    text: &[u8],
+    start: Cursor,
+    sizes: Sizes,
+    table: &mut [u8; Sizes::TABLE],
+) -> ReadAnswer
     requires { ⌜ (Within (now text) start) × (sizes .n ≤ 8) × (sizes .m ≤ 8) ⌝ }
     ensures { λ r. ⌜ standsFor r (now (table .exit)) ≡ linesAt (now (text .entry)) sizes start 0 (now (table .entry)) ⌝ }
 {

@@ -3,12 +3,10 @@
 use mathlib.Core.Bool.{cond}
 use mathlib.Core.List.{List, _++_}
 use mathlib.Core.Path.{_≡_}
-use Prim.Native.Nat.{ℕ, _≤_}
+use Prim.Native.Nat.{ℕ}
 use lib.Dec.{leb}
 use lib.ListN.{length, take, drop}
 use Rattle.numbers.specs.Bytes.{at}
-use Rattle.expansions.specs.Members.{Member, Gives}
-use Rattle.expansions.specs.Costs.{products, literals}
 use Rattle.search.specs.Expansion.{answerExpansion}
 use Rattle.text.specs.declared.compile.Compiled.{Compiled}
 use Rattle.text.specs.declared.compile.Compiled.the-variants.{Written, Refused}

@@ -1,6 +1,6 @@
 -- The refusal of a text: its number is 1 to 6, and its line is at least 1 and at most one more than the text has bytes (`reading-refused`).
 -- So the two numbers of the line `refused` that is printed have at most four digits, and the line says them back (`refusal-said`).
-use mathlib.Core.Bool.{Bool, true, false, cond, _&&_, _||_}
+use mathlib.Core.Bool.{Bool, true, false, cond, _&&_}
 use mathlib.Core.List.{List, [], _∷_, _++_, map, append-assoc, append-nil}
 use mathlib.Core.Path.{_≡_, sym, ap, _∙_}
 use Prim.Native.Nat.{ℕ, zero, suc, _+_, _^_, _<_, _≤_}
