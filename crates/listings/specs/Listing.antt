@@ -29,11 +29,12 @@ descending (suc N) g = g N ∷ descending N g
 
 -- ---- numbers
 
--- how many digits x has: "its numbers have one to four digits"
+-- how many digits x has, where x is below 10,000, and else 4: "its numbers have one to four digits"
 unfoldable pub digitCount : ℕ → ℕ
 digitCount x = cond (ltb x 10) 1 (cond (ltb x 100) 2 (cond (ltb x 1000) 3 4))
 
--- x in base ten, the highest digit first, with "no leading zero but `0`"; the character `0` is byte 48
+-- x in base ten, where x is below 10,000, the highest digit first, with "no leading zero but `0`"; of a larger x its four lowest digits. The
+-- character `0` is byte 48
 unfoldable pub decimal : ℕ → List ℕ
 decimal x = descending (digitCount x) (λ i. 48 + x / 10 ^ i % 10)
 

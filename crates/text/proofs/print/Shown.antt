@@ -23,6 +23,7 @@ use Rattle.text.specs.Compile.{answerListing, compiled, bufferAfter, Com
 use Rattle.text.specs.Print.{judged, refusedLine, printedFor, printed, Print}
 use Rattle.table_texts.proofs.read.Accepted.{reading-accepted}
 use Rattle.listings.proofs.Longest.{listing-longest}
+use Rattle.table_texts.proofs.Length.{accepted-text-first}
 use Rattle.text.proofs.writer.Puts.{put-front}
 use Rattle.text.proofs.compile.Listings.{answer-listing}
 use Rattle.text.proofs.print.Refusals.{refusal-said, refused-line-le}
@@ -72,6 +73,7 @@ print-holds input held count ec eh =
       meaning = λ z table e.
           subst (IsListing (z .n) (z .k) (at table)) (sym (shown ∙ ap printedFor e)) (answer-listing z table (reading-accepted (judged input) z table e));
       refusal = λ number l e. ap firstNumbers (shown ∙ ap printedFor e) ∙ refusal-said input number l e;
+      whole = λ z table e. shown ∙ ap (λ (x : List ℕ). printedFor (reading x)) (accepted-text-first input z table e) ∙ ap printedFor e;
     }
 
 -- ---- by the text call's answer
