@@ -11,7 +11,8 @@ use borrow.Author.Tests.{eq-eqb, ne-eqb}
 use lib.Dec.{eqb}
 use lib.ListN.{length, getD, take, drop, drop-of-length-le, length-drop}
 use lib.Seq.{drop-cons, drop-drop}
-use Rattle.listings.specs.Parts.{Parts, all, withByte, parts, stop}
+use Rattle.listings.specs.Parts.{Parts, all, withByte, parts}
+use Rattle.listings.specs.inner.Stops.{stop}
 
 -- ---- the first part
 

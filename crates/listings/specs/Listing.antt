@@ -1,8 +1,7 @@
 -- The listing of an expansion, byte by byte. Document 01, "Text in, listing out": "A listing .. is: `form` ..; one line for each product ..; `end`."
-use mathlib.Core.Path.{_≡_}
 use mathlib.Core.Bool.{cond}
 use mathlib.Core.List.{List, [], _∷_, _++_, map}
-use Prim.Native.Nat.{ℕ, zero, suc, _+_, _/_, _%_, _^_, _≤_, _<_}
+use Prim.Native.Nat.{ℕ, zero, suc, _+_, _/_, _%_, _^_}
 use lib.Dec.{ltb}
 use Rattle.numbers.specs.Bytes.{at, tabulate}
 use Rattle.numbers.specs.Bits.{bit}
@@ -82,11 +81,3 @@ productLines n m M i φ c = termLines n m (polarity n M i φ) c (2 ^ n)
 unfoldable pub listing : ℕ → ℕ → ℕ → Expansion → List ℕ
 listing n m k e =
     formLine n m k e ++ productLines n m (e .mixed) (e .fixed) (at (e .blocks)) (at (e .coefficients)) ++ line (bytes "end") []
-
--- an expansion that can be written: at most eight inputs and outputs, masks of n inputs, and as many products as its record states
-pub record Listable (n m : ℕ) (e : Expansion) : Type 0 where
-  pub inputs : n ≤ 8
-  pub outputs : m ≤ 8
-  pub mixed : e .mixed < 2 ^ n
-  pub fixed : e .fixed < 2 ^ n
-  pub counted : e .products ≡ products n (at (e .coefficients))

@@ -14,7 +14,7 @@ use Rattle.numbers.specs.Bits.{bit, pack}
 use Rattle.numbers.proofs.Bytes.{length-tabulate, at-tabulate}
 use Rattle.numbers.proofs.Shifts.{one-shifted}
 use Rattle.expansions.specs.Split.{join}
-use Rattle.expansions.specs.BlockTable.{plane}
+use Rattle.expansions.specs.inner.Planes.{plane}
 use Rattle.search.specs.inner.Search.{placeByte, planeByte, planesOf}
 use Rattle.expansions.proofs.Split.{join-lt}
 use Rattle.numbers.proofs.Pack.{pack-ext}

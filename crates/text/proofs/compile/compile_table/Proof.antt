@@ -3,7 +3,7 @@ use borrow.Author.Needs.{needs}
 use mathlib.Core.Path.{sym, ap, subst, _∙_}
 use lib.Seq.{length-take-le}
 use Rattle.search.specs.declared.expansion.Expansion.{Expansion}
-use Rattle.listings.specs.Listing.{Listable}
+use Rattle.listings.specs.inner.Listable.{Listable}
 use Rattle.text.specs.inner.Write.{WriteListing}
 use Rattle.text.proofs.compile.Tables.{part-within, searched-table, table-listable, said, compiled-answer, compiled-bytes}
 use Rattle.text.proofs.compile.compile_table.Statement.{statement}
