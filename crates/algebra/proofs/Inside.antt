@@ -54,7 +54,9 @@ unfolding xorInside
 inside-even n g s =
     let e : s * 2 ≡ s * 2 + 0 = omega arith in
     rw e (xor-split n _ ∙ sym (xor-op (2 ^ n) _ _)
-    ∙ fold-ext bitXor (2 ^ n) _ _ (λ r l. ap₂ bitXor (ap (λ (b : Bool). only b (g (r * 2))) (test-even r s 0 (omega arith))) (test-odd-even r s (g (r * 2 + 1))) ∙ xor-zero-r (only (inside r s) (g (r * 2)))))
+    ∙ fold-ext bitXor (2 ^ n) _ _ (λ r l.
+    let even = ap (λ (b : Bool). only b (g (r * 2))) (test-even r s 0 (omega arith)) in
+    ap₂ bitXor even (test-odd-even r s (g (r * 2 + 1))) ∙ xor-zero-r (only (inside r s) (g (r * 2)))))
 
 pub inside-odd : (n : ℕ) (g : ℕ → ℕ) (s : ℕ) → xorInside (suc n) g (s * 2 + 1) ≡ bitXor (xorInside n (evens g) s) (xorInside n (odds g) s)
 unfolding xorInside
