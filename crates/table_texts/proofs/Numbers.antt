@@ -22,12 +22,26 @@ use Rattle.numbers.proofs.Tests.{both-left, both-right}
 pub wrong-is : {v : ℕ} → Wrong ≡ Is v → ⊥
 wrong-is e = let z : _≡_ {A = ℕ} 0 1 = cc in omega arith
 
-pub digit-lt : (base b v : ℕ) → digit base b ≡ Is v → v < base
+-- a number that is read under a test: the test passes
+pub under-test : (t : Bool) (x : Number) (v : ℕ) → cond t x Wrong ≡ Is v → (t ≡ true) × (x ≡ Is v)
+under-test true x v e = (refl, e)
+under-test false x v e = absurd (wrong-is e)
+
+-- what a byte says is its distance from `0`, and below the base
+digit-read : (base b v : ℕ) → digit base b ≡ Is v → (48 ≤ b) × (b - 48 ≡ v) × (v < base)
 unfolding digit
-digit-lt base b v e = go (leb 48 b && ltb (b - 48) base) refl e where
-  go : (t : Bool) → (leb 48 b && ltb (b - 48) base) ≡ t → cond t (Is (b - 48)) Wrong ≡ Is v → v < base
-  go true h g = let same : b - 48 ≡ v = cc in omega (arith, ltb-true (b - 48) base (both-right (leb 48 b) (ltb (b - 48) base) h))
-  go false h g = absurd (wrong-is g)
+digit-read base b v e =
+    let passes = under-test (leb 48 b && ltb (b - 48) base) (Is (b - 48)) v e in
+    let least : 48 ≤ b = leb-true 48 b (both-left (leb 48 b) (ltb (b - 48) base) (passes .0)) in
+    let said : Is (b - 48) ≡ Is v = passes .1 in
+    let value : b - 48 ≡ v = cc in
+    (least, value, omega (arith, ltb-true (b - 48) base (both-right (leb 48 b) (ltb (b - 48) base) (passes .0))))
+
+pub digit-lt : (base b v : ℕ) → digit base b ≡ Is v → v < base
+digit-lt base b v e = digit-read base b v e .2
+
+pub digit-byte : (base b v : ℕ) → digit base b ≡ Is v → b ≡ 48 + v
+digit-byte base b v e = let said = digit-read base b v e in omega (arith, said .0, said .1)
 
 -- ---- numbers, from the left
 
