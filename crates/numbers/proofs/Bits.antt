@@ -1,8 +1,9 @@
 -- The bits of a number: by the lowest bit and the rest, through an exclusive OR, and the bits of one number among those of another.
 use mathlib.Core.Path.{_≡_, refl, sym, ap, _∙_}
 use mathlib.Core.Bool.{Bool, true, _&&_}
-use Prim.Native.Nat.{ℕ, zero, suc, _+_, _*_, _/_, _%_, _^_, _<_, min}
-use native.Mathlib.Nat.{zero-div, div-one, pow-suc, mul-comm, div-div-eq-div-mul}
+use Prim.Native.Nat.{ℕ, zero, suc, _+_, _*_, _/_, _%_, _^_, _≤_, _<_, min}
+use native.Mathlib.Nat.{zero-div, div-one, pow-suc, mul-comm, div-div-eq-div-mul, div-eq-of-lt}
+use native.Mathlib.Decide.{decLe}
 use native.Mathlib.Omega.{arith}
 use borrow.Author.Tests.{ne-eqb}
 use lib.Arith.{bin-ind, digits-div, digits-mod, mod-mul}
@@ -38,6 +39,14 @@ bit-lt i x = low-lt (x / 2 ^ i)
 
 pub bit-of-zero : (i : ℕ) → bit i 0 ≡ 0
 bit-of-zero i = ap (λ (y : ℕ). y % 2) (zero-div (2 ^ i))
+
+-- a number with the bit s is at least 2 ^ s
+pub bit-le : (s q : ℕ) → bit s q ≡ 1 → 2 ^ s ≤ q
+bit-le s q e = go (decLe (2 ^ s) q)
+  where
+    go : Dec (2 ^ s ≤ q) → 2 ^ s ≤ q
+    go (yes l) = l
+    go (no l) = let h : q < 2 ^ s = omega arith in absurd (omega (arith, div-eq-of-lt h))
 
 -- ---- inside, by the lowest bit and the rest
 

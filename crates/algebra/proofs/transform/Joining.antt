@@ -3,8 +3,7 @@
 use mathlib.Core.Path.{_≡_, refl, sym, ap, ap₂, _∙_, fun-ext}
 use mathlib.Core.List.{List}
 use Prim.Native.Nat.{ℕ, zero, suc, _+_, _-_, _*_, _/_, _%_, _^_, _≤_, _<_}
-use native.Mathlib.Nat.{div-add-mod', pow-suc, add-zero, div-one, zero-mod, div-eq-of-lt}
-use native.Mathlib.Decide.{decLe}
+use native.Mathlib.Nat.{div-add-mod', pow-suc, add-zero, div-one, zero-mod}
 use native.Mathlib.Omega.{arith}
 use native.Mathlib.Numerals.{add-one}
 use lib.Arith.{digits-div}
@@ -17,7 +16,7 @@ use Rattle.algebra.specs.Coefficients.{xorInside}
 use Rattle.algebra.specs.Transform.{functionAt}
 use Rattle.algebra.specs.inner.Steps.{joined, stepped, SteppedTo}
 use Rattle.numbers.proofs.Xor.{low-lt}
-use Rattle.numbers.proofs.Bits.{div-digits, mod-digits, bit-zero, bit-suc}
+use Rattle.numbers.proofs.Bits.{div-digits, mod-digits, bit-zero, bit-suc, bit-le}
 use Rattle.algebra.proofs.Inside.{inside-none, inside-even, inside-odd, inside-ext, inside-xor, evens, odds}
 use Rattle.numbers.proofs.Bytes.{is-table}
 
@@ -34,13 +33,6 @@ unfolding joined
 joined-other zero a x y e h = refl
 joined-other (suc zero) a x y e h = ap (bitXor a) (e refl)
 joined-other (suc (suc d)) a x y e h = absurd (omega arith)
-
-bit-le : (s q : ℕ) → bit s q ≡ 1 → 2 ^ s ≤ q
-bit-le s q e = go (decLe (2 ^ s) q)
-  where
-    go : Dec (2 ^ s ≤ q) → 2 ^ s ≤ q
-    go (yes l) = l
-    go (no l) = let h : q < 2 ^ s = omega arith in absurd (omega (arith, div-eq-of-lt h))
 
 bit-up : (s q b : ℕ) → b < 2 → bit (suc s) (q * 2 + b) ≡ bit s q
 bit-up s q b h = bit-suc s (q * 2 + b) ∙ ap (bit s) (digits-div q h)
