@@ -14,9 +14,10 @@ use Rattle.table_texts.specs.declared.fields.Number.{Number}
 use Rattle.listings.specs.Parts.{bytes, same}
 use Rattle.table_texts.specs.Fields.{andThen, digit, oneDigit, mixed, digitsFrom, wellFormed, point, bits, outputs}
 use Rattle.listings.specs.Listing.{decimal, outputBytes}
-use Rattle.table_texts.proofs.Numbers.{wrong-is, under-test, digit-lt, digit-byte, wellFormed-le}
+use Rattle.table_texts.proofs.Numbers.{wrong-is, under-test, digit-lt, digit-byte, wellFormed-le, outputs-is}
 use Rattle.listings.proofs.Words.{same-equal}
-use Rattle.table_texts.proofs.Written.{decimal-one, decimal-two, decimal-three, outputs-cons, outputs-none}
+use Rattle.table_texts.proofs.Written.{decimal-one, decimal-two, decimal-three}
+use Rattle.listings.proofs.Cubes.{outputs-none, outputs-cons}
 
 -- ---- n, m and k
 
@@ -111,18 +112,6 @@ bits-read (b ∷ f) v e = go (digit 2 b) (bits f) refl refl (bits-read f) e wher
   go Wrong r p q ih g = absurd (wrong-is g)
 
 pub outputs-read : (m : ℕ) (f : List ℕ) (v : ℕ) → outputs m f ≡ Is v → (f ≡ outputBytes m v) × (v ≡ 0 → ⊥)
-unfolding outputs
 outputs-read m f v e =
-    let passes = under-test (eqb (length f) m) (andThen (bits f) Wrong (λ v. cond (eqb v 0) Wrong (Is v))) v e in
-    go (bits f) refl (eqb-true (length f) m (passes .0)) (passes .1)
-  where
-    some : (u : ℕ) (t : Bool) → eqb u 0 ≡ t → cond t Wrong (Is u) ≡ Is v → (u ≡ v) × (v ≡ 0 → ⊥)
-    some u true h g = absurd (wrong-is g)
-    some u false h g = let value : u ≡ v = cc in (value, λ z. eqb-false u 0 h (value ∙ z))
-
-    go : (r : Number) → bits f ≡ r → length f ≡ m → andThen r Wrong (λ v. cond (eqb v 0) Wrong (Is v)) ≡ Is v
-        → (f ≡ outputBytes m v) × (v ≡ 0 → ⊥)
-    go (Is u) p long g =
-        let found = some u (eqb u 0) refl g in
-        (bits-read f u p ∙ ap₂ outputBytes long (found .0), found .1)
-    go Wrong p long g = absurd (wrong-is g)
+    let said = outputs-is m f v e in
+    (bits-read f v (said .1) ∙ ap (λ (m : ℕ). outputBytes m v) (said .0), said .2)
