@@ -6,13 +6,12 @@ use native.Mathlib.Nat.{mul-le-mul}
 use native.Mathlib.Omega.{arith}
 use lib.Pow.{pow-mono}
 use Rattle.numbers.specs.Bytes.{at, tabulate}
-use Rattle.expansions.specs.Answers.{answerPolarity, answerCoefficient}
+use Rattle.expansions.specs.Answers.{answerPolarity, answerCoefficient, Minimal}
 use Rattle.search.specs.Expansion.{answerExpansion}
 use Rattle.numbers.proofs.Tables.{at-whole}
 use Rattle.expansions.proofs.Costs.{products-le, literals-le}
 use Rattle.expansions.proofs.Answers.{answer-coefficient-zero, answer-polarity-zero, answer-member, answer-minimal, answer-ext, answer-coefficient-lt, answer-polarity-lt}
 use Rattle.search.specs.declared.expansion.Expansion.{Expansion}
-use Rattle.expansions.specs.Answers.{Minimal}
 
 -- the record holds the answer for the table f: "the member that gives the table with fewest products, .."
 abbrev pub Answered : ℕ → ℕ → (ℕ → ℕ) → Expansion → Type 0
