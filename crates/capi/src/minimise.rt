@@ -39,7 +39,8 @@ pub extern "C" fn mipaldoz_minimise(
     blocks: &mut [u8],
     answer: &mut [u64; 6],
 )
-    ensures bytes { λ _. ⌜ Minimise n m k (now (table .entry)) (now (coefficients .entry)) (now (coefficients .exit)) (now (blocks .entry)) (now (blocks .exit)) (decidedMinimum n m k (now (table .entry)) (length (now (coefficients .entry))) (length (now (blocks .entry)))) ⌝ }
+    ensures bytes { λ _. ⌜ Minimise n m k (now (table .entry)) (now (coefficients .entry)) (now (coefficients .exit)) (now (blocks .entry)) (now (blocks .exit))
+        (decidedMinimum n m k (now (table .entry)) (length (now (coefficients .entry))) (length (now (blocks .entry)))) ⌝ }
     ensures answer { λ _. ⌜ now (answer .exit) ≡ minimumNumbers (decidedMinimum n m k (now (table .entry)) (length (now (coefficients .entry))) (length (now (blocks .entry)))) ⌝ }
 {
     *answer = minimum_numbers(search::calls::minimise(n, m, k, table, coefficients, blocks));

@@ -1,19 +1,19 @@
 -- Every row of the table of marked designs holds (`designs-hold`): one test over all rows, which the checker computes, and a law that turns
 -- it into the fact at each. Of the last design's rows it follows that a larger k can be dearer (`larger-k-dearer`).
-use mathlib.Core.Path.{_≡_, refl, ap₂}
+use mathlib.Core.Path.{_≡_}
 use mathlib.Core.Bool.{Bool, true, _&&_}
 use mathlib.Core.List.{List, [], _∷_, List·Memᴰ, List·Memᴰ·not-nil, List·Memᴰ·cases-cons, List·Memᴰ·head, List·Memᴰ·tail}
 use mathlib.Core.Logic.{_⊎_, inl, inr}
 use Prim.Native.Nat.{ℕ, _<_}
 use native.Mathlib.Omega.{arith}
 use lib.Count.{onesIn, ones}
-use lib.Dec.{T, eqb, eqb→eq}
+use lib.Dec.{T}
 use Rattle.numbers.specs.Bytes.{at, tabulate}
 use Rattle.numbers.specs.Sums.{foldBelow}
 use Rattle.numbers.specs.Bits.{inside, pack}
 use Rattle.numbers.specs.Tests.{only}
 use Rattle.numbers.specs.Refusals.{tableRefusal, sizesRefusal}
-use Rattle.numbers.proofs.Tests.{and-left, and-right}
+use Rattle.numbers.proofs.Tests.{same-test, and-left, and-right}
 use Rattle.algebra.specs.Coefficients.{xorInside, coefficient}
 use Rattle.expansions.specs.Split.{putDigit, lowDigit, dropDigit, gather, spread, outside, join}
 use Rattle.expansions.specs.Members.{polarity}
@@ -25,6 +25,7 @@ use Rattle.expansions.specs.Answers.{answerPair, answerMixed, answerFixed, answ
 use Rattle.search.specs.Expansion.{answerExpansion}
 use Rattle.listings.specs.Parts.{parts, fields, bytes, same}
 use Rattle.listings.specs.Listing.{tabbed, line, descending, digitCount, decimal, cubeByte, cube, outputBytes, formLine, termLine, ifProduct, termLines, listing}
+use Rattle.listings.proofs.Words.{same-equal}
 use Rattle.listings.specs.Meaning.{allows, cubeTrue, literalsIn, outputsSaid, finished, linesOf, ofTerm, overLines, overTerms}
 use Rattle.listings.specs.Meaning.{listingValue, listingProducts, listingLiterals, numberSaid, firstNumbers}
 use Rattle.table_texts.specs.Fields.{digit, oneDigit, mixed, digitsFrom, wellFormed, point, bits, outputs}
@@ -35,14 +36,6 @@ use Rattle.text.specs.Print.{refusedLine, printedFor, printed}
 use Rattle.designs.specs.Designs.{costOf, termsBelow, computed, Design, states, Holds, markedDesigns, orTable, zeroTable, oneTable, pointTable, withoutTable, printedTable}
 
 -- ---- the test
-
-same-is : (xs ys : List ℕ) → T (same xs ys) → xs ≡ ys
-unfolding same
-same-is [] [] t = refl
-same-is [] (y ∷ ys) t = absurd t
-same-is (x ∷ xs) [] t = absurd t
-same-is (x ∷ xs) (y ∷ ys) t =
-    ap₂ _∷_ (eqb→eq x y (and-left (eqb x y) (same xs ys) t)) (same-is xs ys (and-right (eqb x y) (same xs ys) t))
 
 -- the definitions give the numbers that are stated
 unfoldable agrees : Design → Bool
@@ -56,7 +49,7 @@ allAgree (d ∷ ds) = agrees d && allAgree ds
 
 agrees-holds : (d : Design) → T (agrees d) → Holds d
 unfolding agrees
-agrees-holds (states asked stated) t = same-is (computed asked) stated t
+agrees-holds (states asked stated) t = same-equal (computed asked) stated (same-test (same (computed asked) stated) true (λ x. tt) (λ x. t))
 
 all-hold : (ds : List Design) → T (allAgree ds) → (d : Design) → List·Memᴰ d ds → Holds d
 unfolding allAgree
