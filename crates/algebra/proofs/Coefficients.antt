@@ -72,10 +72,6 @@ coefficient-ignored n w i f h l e t b =
     turn : (q : ℕ) → bitXor (bitXor q (2 ^ i)) w ≡ bitXor (bitXor q w) (2 ^ i)
     turn q = xor-assoc q (2 ^ i) w ∙ ap (bitXor q) (xor-comm (2 ^ i) w) ∙ sym (xor-assoc q w (2 ^ i))
 
--- moving by w, seen in the k lowest inputs
-xor-lowest : (k q w : ℕ) → bitXor q w % 2 ^ k ≡ bitXor (q % 2 ^ k) (w % 2 ^ k)
-xor-lowest k q w = xor-mod q w k
-
 -- a function of the k lowest of k + m inputs: on the terms of those inputs it has the coefficients of the smaller function
 pub coefficient-smaller : (k m w : ℕ) (g : ℕ → ℕ) (t : ℕ) → t < 2 ^ k → coefficient (k + m) w (λ p. g (p % 2 ^ k)) t ≡ coefficient k (w % 2 ^ k) g t
 unfolding coefficient

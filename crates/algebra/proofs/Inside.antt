@@ -3,17 +3,16 @@
 use mathlib.Core.Path.{_≡_, refl, sym, ap, ap₂, _∙_}
 use mathlib.Core.Bool.{Bool}
 use Prim.Native.Nat.{ℕ, zero, suc, _+_, _*_, _/_, _%_, _^_, _≤_, _<_}
-use native.Mathlib.Nat.{add-zero, zero-add, suc-add, mod-one, pow-suc}
+use native.Mathlib.Nat.{add-zero, zero-add, suc-add, mod-one}
 use native.Mathlib.Omega.{arith}
-use lib.Arith.{lt-one, digits-div, digits-mod, mod-mul}
-use lib.Pow.{pow-pos}
+use lib.Arith.{lt-one, digits-div}
 use lib.Bits.{bitXor, xor-self, differ, xor-zero-r}
 use Rattle.numbers.specs.Sums.{foldBelow}
 use Rattle.numbers.specs.Bits.{bit, inside}
 use Rattle.numbers.specs.Tests.{only}
 use Rattle.algebra.specs.Coefficients.{xorInside}
 use Rattle.numbers.proofs.Xor.{low-lt, xor-cancel-l, xor-digits}
-use Rattle.numbers.proofs.Bits.{bit-zero, bit-suc, covered, inside-digits}
+use Rattle.numbers.proofs.Bits.{mod-digits, bit-zero, bit-suc, covered, inside-digits}
 use Rattle.numbers.proofs.Sums.{fold-ext, fold-map, fold-closed, xor-op, xor-split, below-split}
 use Rattle.numbers.proofs.Tests.{only-map, only-closed, only-xor}
 
@@ -54,7 +53,9 @@ unfolding xorInside
 inside-even n g s =
     let e : s * 2 ≡ s * 2 + 0 = omega arith in
     rw e (xor-split n _ ∙ sym (xor-op (2 ^ n) _ _)
-    ∙ fold-ext bitXor (2 ^ n) _ _ (λ r l. ap₂ bitXor (ap (λ (b : Bool). only b (g (r * 2))) (test-even r s 0 (omega arith))) (test-odd-even r s (g (r * 2 + 1))) ∙ xor-zero-r (only (inside r s) (g (r * 2)))))
+    ∙ fold-ext bitXor (2 ^ n) _ _ (λ r l.
+    let even = ap (λ (b : Bool). only b (g (r * 2))) (test-even r s 0 (omega arith)) in
+    ap₂ bitXor even (test-odd-even r s (g (r * 2 + 1))) ∙ xor-zero-r (only (inside r s) (g (r * 2)))))
 
 pub inside-odd : (n : ℕ) (g : ℕ → ℕ) (s : ℕ) → xorInside (suc n) g (s * 2 + 1) ≡ bitXor (xorInside n (evens g) s) (xorInside n (odds g) s)
 unfolding xorInside
@@ -156,9 +157,6 @@ inside-ignored (suc n) (suc i) g t l f e =
     (inside-ignored n i (odds g) (t / 2) (omega arith) (λ r k. ap g (sym (flip-up i r 1 (omega arith))) ∙ f (r * 2 + 1) (omega arith)) (sym (bit-suc i t) ∙ e))
 
 -- ---- a function of the k lowest bits
-
-mod-digits : (k r b : ℕ) → b < 2 → (r * 2 + b) % 2 ^ suc k ≡ r % 2 ^ k * 2 + b
-mod-digits k r b h = ap (λ (x : ℕ). (r * 2 + b) % x) (pow-suc 2 k) ∙ mod-mul (r * 2 + b) (pow-pos k) (omega arith) ∙ rw (digits-div r h, digits-mod r h)
 
 mod-even : (k r : ℕ) → r * 2 % 2 ^ suc k ≡ r % 2 ^ k * 2
 mod-even k r = ap (λ (x : ℕ). x % 2 ^ suc k) (sym (add-zero (r * 2))) ∙ mod-digits k r 0 (omega arith) ∙ add-zero (r % 2 ^ k * 2)

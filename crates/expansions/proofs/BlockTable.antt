@@ -19,14 +19,19 @@ use Rattle.numbers.proofs.Sums.{fold-ext, fold-closed}
 use Rattle.algebra.proofs.Value.{value-ext}
 use Rattle.algebra.proofs.Coefficients.{value-coefficient, coefficient-unique, coefficient-ext, coefficient-bit, coefficient-lt, coefficient-smaller, coefficient-missing}
 use Rattle.expansions.specs.Answers.{blockFunction, blockCharge}
-use Rattle.expansions.specs.BlockTable.{entry, blockTable, plane, used}
+use Rattle.expansions.specs.BlockTable.{entry, blockTable}
+use Rattle.expansions.specs.inner.Planes.{plane}
 use Rattle.expansions.specs.Costs.{counted, weight}
-use Rattle.expansions.specs.Charges.{literalCount, byteCharge}
+use Rattle.expansions.specs.inner.Charges.{literalCount, byteCharge}
 use Rattle.numbers.proofs.Bits.{bit-lt}
 use Rattle.numbers.proofs.Pack.{pack-ext, pack-lt, pack-bit, pack-bits, bit-ors}
 use Rattle.expansions.proofs.Blocks.{blockFunction-lt}
 use Rattle.expansions.proofs.Counted.{counted-mul, counted-bits}
 use Rattle.expansions.proofs.Charges.{literalCount-ones, byteCharge-outside}
+
+-- the terms that some of the m outputs has under φ, as the bits of a byte: "A product used by several outputs counts as a single product"
+unfoldable pub used : ℕ → ℕ → ℕ → (ℕ → ℕ) → ℕ
+used m k φ g = foldBelow bitOr m (λ o. entry (plane k g o) φ)
 
 -- ---- entries
 

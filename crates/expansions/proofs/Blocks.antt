@@ -2,7 +2,7 @@
 -- each an expansion over the inputs of M (`value-blocks`). So the member's coefficients exist (`member-gives`) and are the only ones
 -- (`member-unique`): on the term t those of one polarity, the term's own (`member-coefficient`).
 use mathlib.Core.Path.{_≡_, refl, sym, ap, ap₂, _∙_}
-use mathlib.Core.Bool.{Bool, true, false, _&&_}
+use mathlib.Core.Bool.{Bool, true, false, _&&_, and-assoc}
 use Prim.Native.Nat.{ℕ, zero, suc, _+_, _-_, _*_, _/_, _%_, _^_, _<_}
 use native.Mathlib.Omega.{arith}
 use lib.Count.{onesIn, ones, ones-step, ones-le}
@@ -43,17 +43,13 @@ and-swap true b c = refl
 and-swap false true c = refl
 and-swap false false c = refl
 
-and-assoc : (a b c : Bool) → (a && (b && c)) ≡ ((a && b) && c)
-and-assoc true b c = refl
-and-assoc false b c = refl
-
 inside-digit : (s x b c : ℕ) → b < 2 → c < 2 → inside (s * 2 + b) (x * 2 + c) ≡ (covered b c && inside s x)
 inside-digit s x b c hb hc = inside-digits s b (x * 2 + c) hb ∙ rw (digits-div x hc, digits-mod x hc)
 
 inside-put : (m b c s x s′ x′ : ℕ) → m < 2 → b < 2 → c < 2
     → (covered b c && (inside s x && inside s′ x′)) ≡ (inside (putDigit (1 - m) s b) (putDigit (1 - m) x c) && inside (putDigit m s′ b) (putDigit m x′ c))
 unfolding putDigit
-inside-put zero b c s x s′ x′ hm hb hc = rw inside-digit (and-assoc (covered b c) (inside s x) (inside s′ x′))
+inside-put zero b c s x s′ x′ hm hb hc = rw inside-digit (sym (and-assoc (covered b c) (inside s x) (inside s′ x′)))
 inside-put (suc zero) b c s x s′ x′ hm hb hc = rw inside-digit (and-swap (covered b c) (inside s x) (inside s′ x′))
 inside-put (suc (suc m)) b c s x s′ x′ hm hb hc = absurd (omega arith)
 

@@ -13,7 +13,7 @@ use Rattle.numbers.specs.Bits.{bit}
 use Rattle.numbers.proofs.Bytes.{at-tabulate}
 use Rattle.numbers.proofs.Sums.{fold-ext, fold-map, fold-op}
 use Rattle.expansions.specs.Costs.{weight}
-use Rattle.expansions.specs.Charges.{literalCounts, literalCount, byteCharge}
+use Rattle.expansions.specs.inner.Charges.{literalCounts, literalCount, byteCharge}
 use Rattle.numbers.proofs.Tables.{matches, matches-tabulate}
 use Rattle.numbers.proofs.Bits.{bit-lt}
 use Rattle.numbers.proofs.Pack.{ones-bits}

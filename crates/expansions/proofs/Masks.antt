@@ -1,6 +1,6 @@
 -- Masks as code computes them: the inputs outside M as a difference (`outside-difference`), the test that i is clear of M as a bitwise AND
 -- (`gather-clear`), and gather and spread one input at a time, from the lowest (`gather-next`, `spread-next`).
-use mathlib.Core.Path.{_≡_, refl, sym, ap, _∙_, subst}
+use mathlib.Core.Path.{_≡_, refl, sym, ap, _∙_}
 use mathlib.Core.Bool.{Bool, _&&_}
 use mathlib.Core.Logic.{_↔_}
 use Prim.Native.Nat.{ℕ, zero, suc, _+_, _-_, _*_, _/_, _%_, _^_, _≤_, _<_, min}
@@ -15,7 +15,7 @@ use lib.Dec.{T, eqb, eqb→eq, eqb-refl}
 use Rattle.numbers.specs.Bits.{bit}
 use Rattle.numbers.proofs.Xor.{low-lt}
 use Rattle.numbers.proofs.Bits.{bit-zero, bit-suc}
-use Rattle.numbers.proofs.Tests.{same-test, and-intro, and-left, and-right}
+use Rattle.numbers.proofs.Tests.{eqb-same, and-intro, and-left, and-right}
 use Rattle.expansions.specs.Split.{putDigit, lowDigit, dropDigit, gather, spread, outside}
 use Rattle.expansions.specs.Answers.{validPair}
 
@@ -81,12 +81,7 @@ valid-clear n k M i t = eqb→eq (gather n M i) 0 (and-right (eqb (onesIn n M) k
 pub valid-mask : (n k M i : ℕ) → i < 2 ^ n → validPair n k M i ≡ (eqb (onesIn n M) k && eqb (bitAnd i M) 0)
 unfolding validPair
 valid-mask n k M i h =
-    ap (λ (b : Bool). eqb (onesIn n M) k && b)
-    (same-test (eqb (gather n M i) 0) (eqb (bitAnd i M) 0) (λ t. zero-test (bitAnd i M) (gather-clear n M i h .0 (eqb→eq (gather n M i) 0 t)))
-    (λ t. zero-test (gather n M i) (gather-clear n M i h .1 (eqb→eq (bitAnd i M) 0 t))))
-  where
-    zero-test : (x : ℕ) → x ≡ 0 → T (eqb x 0)
-    zero-test x e = subst (λ (y : ℕ). T (eqb y 0)) (sym e) (eqb-refl 0)
+    ap (λ (b : Bool). eqb (onesIn n M) k && b) (eqb-same (gather n M i) 0 (bitAnd i M) 0 (gather-clear n M i h .0) (gather-clear n M i h .1))
 
 -- ---- one input more, from the lowest
 

@@ -4,5 +4,4 @@ pub mod Costs
 pub mod Least
 pub mod Answers
 pub mod BlockTable
-pub mod Charges
 pub mod inner

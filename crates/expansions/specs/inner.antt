@@ -1,1 +1,3 @@
+pub mod Charges
 pub mod Leading
+pub mod Planes

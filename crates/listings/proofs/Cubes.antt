@@ -1,8 +1,9 @@
 -- What the fields of a printed line say. A cube is true where its term's literals are (`cube-holds`) and has the term's literals
 -- (`cube-literals`), outputs say the coefficient (`outputs-said`), and a number's digits say the number (`decimal-said`).
 use mathlib.Core.Bool.{Bool, true, false, cond, _&&_}
+use mathlib.Core.List.{[], _∷_}
 use mathlib.Core.Path.{_≡_, refl, ap, _∙_}
-use Prim.Native.Nat.{ℕ, zero, suc, _+_, _-_, _*_, _/_, _%_, _^_, _≤_, _<_}
+use Prim.Native.Nat.{ℕ, zero, suc, _+_, _-_, _*_, _/_, _%_, _^_, _<_}
 use native.Mathlib.Decide.{ℕ-discrete}
 use native.Mathlib.Nat.{not-suc-le-zero, pow-suc, div-eq-of-lt, div-div-eq-div-mul, div-one}
 use native.Mathlib.Omega.{arith}
@@ -18,7 +19,7 @@ use Rattle.numbers.proofs.Bytes.{tabulate-ext}
 use Rattle.numbers.proofs.Tests.{same-test, and-intro, and-left, and-right}
 use Rattle.algebra.proofs.Terms.{holds-words}
 use Rattle.numbers.proofs.Xor.{low-lt}
-use Rattle.numbers.proofs.Bits.{bit-zero, bit-suc}
+use Rattle.numbers.proofs.Bits.{bit-zero, bit-suc, bit-le}
 use Rattle.numbers.proofs.Pack.{ones-bits}
 use Rattle.listings.specs.Listing.{descending, digitCount, decimal, cubeByte, cube, outputBytes}
 use Rattle.listings.specs.Meaning.{allows, cubeTrue, literalsIn, outputsSaid, numberSaid}
@@ -73,11 +74,6 @@ cube-from (suc n) t w p f =
     (allows-from (bit n t) (bit n w) (bit n p) (low-lt (t / 2 ^ n)) (low-lt (p / 2 ^ n)) (f n (omega arith)))
     (cube-from n t w p (λ i l. f i (omega arith))))
 
-bit-above : (n t i : ℕ) → t < 2 ^ n → n ≤ i → bit i t ≡ 0
-bit-above n t i h l =
-    let below : t < 2 ^ i = omega (arith, pow-mono l) in
-    rw (div-eq-of-lt below)
-
 pub cube-holds : (n t w p : ℕ) → t < 2 ^ n → cubeTrue (cube n t w) p ≡ holds t w p
 unfolding LiteralsTrue
 cube-holds n t w p h =
@@ -89,7 +85,7 @@ cube-holds n t w p h =
     present i e = go (ltb i n) refl where
       go : (b : Bool) → ltb i n ≡ b → i < n
       go true l = ltb-true i n l
-      go false l = absurd (omega (arith, bit-above n t i h (ltb-false i n l)))
+      go false l = absurd (omega (arith, bit-le i t e, pow-mono (ltb-false i n l)))
 
 cube-bits : (n t w : ℕ) → literalsIn (cube n t w) ≡ sumBelow n (λ i. bit i t)
 unfolding literalsIn cube descending foldBelow
@@ -101,21 +97,35 @@ cube-literals n t w h = cube-bits n t w ∙ ones-bits n t h
 
 -- ---- outputs
 
-pub outputs-said : (m c : ℕ) → c < 2 ^ m → outputsSaid (outputBytes m c) ≡ c
-unfolding outputsSaid outputBytes tabulate
-outputs-said zero c h = omega arith
-outputs-said (suc m) c h =
+pub outputs-none : (c : ℕ) → outputBytes 0 c ≡ []
+unfolding outputBytes tabulate
+outputs-none c = refl
+
+-- the first character is the lowest bit, and the others are those of the other bits
+pub outputs-cons : (m c : ℕ) → outputBytes (suc m) c ≡ (48 + c % 2) ∷ outputBytes m (c / 2)
+unfolding outputBytes tabulate
+outputs-cons m c =
     let rest : tabulate m (λ i. 48 + bit (suc i) c) ≡ outputBytes m (c / 2) = tabulate-ext m _ _ (λ i l. ap (λ (x : ℕ). 48 + x) (bit-suc i c)) in
-    rw (rest, outputs-said m (c / 2) (omega arith), bit-zero c) (omega arith)
+    rw (rest, bit-zero c)
+
+pub outputs-said : (m c : ℕ) → c < 2 ^ m → outputsSaid (outputBytes m c) ≡ c
+unfolding outputsSaid
+outputs-said zero c h = ap outputsSaid (outputs-none c) ∙ omega arith
+outputs-said (suc m) c h = ap outputsSaid (outputs-cons m c) ∙ rw (outputs-said m (c / 2) (omega arith)) (omega arith)
 
 -- ---- numbers
+
+-- a number without its d lowest digits, by the digits before the next one and that one
+pub digits-next : (d x : ℕ) → x / 10 ^ suc d * 10 + x / 10 ^ d % 10 ≡ x / 10 ^ d
+digits-next d x =
+    let high : x / 10 ^ d / 10 ≡ x / 10 ^ suc d = div-div-eq-div-mul x (10 ^ d) 10 ∙ rw pow-suc in
+    omega (arith, high)
 
 digits-said : (d x : ℕ) → numberSaid (x / 10 ^ d) (descending d (λ i. 48 + x / 10 ^ i % 10)) ≡ x
 unfolding numberSaid descending
 digits-said zero x = div-one x
 digits-said (suc d) x =
-    let high : x / 10 ^ d / 10 ≡ x / 10 ^ suc d = div-div-eq-div-mul x (10 ^ d) 10 ∙ rw pow-suc in
-    let e : x / 10 ^ suc d * 10 + (48 + x / 10 ^ d % 10 - 48) ≡ x / 10 ^ d = omega (arith, high) in
+    let e : x / 10 ^ suc d * 10 + (48 + x / 10 ^ d % 10 - 48) ≡ x / 10 ^ d = omega (arith, digits-next d x) in
     ap (λ (v : ℕ). numberSaid v (descending d (λ i. 48 + x / 10 ^ i % 10))) e ∙ digits-said d x
 
 pub digitCount-bound : (x : ℕ) → x < 10000 → x < 10 ^ digitCount x

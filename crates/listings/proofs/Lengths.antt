@@ -17,9 +17,16 @@ use Rattle.expansions.specs.Costs.{counted, products}
 use Rattle.expansions.specs.Members.{polarity}
 use Rattle.search.specs.declared.expansion.Expansion.{Expansion}
 use Rattle.listings.specs.Parts.{bytes}
-use Rattle.listings.specs.Listing.{tabbed, line, digitCount, decimal, cube, outputBytes, formLine, termLine, ifProduct, termLines, listing, productLines, Listable}
-use Rattle.listings.specs.inner.Lengths.{digitsOf, listingLength}
+use Rattle.listings.specs.Listing.{tabbed, line, digitCount, decimal, cube, outputBytes, formLine, termLine, ifProduct, termLines, listing, productLines}
+use Rattle.listings.specs.inner.Listable.{Listable}
+use Rattle.listings.specs.inner.Lengths.{digitsOf}
 use Rattle.listings.proofs.Characters.{length-decimal, digitCount-in, length-cube, length-outputs}
+
+-- its length, from the digits of its numbers and the number of its products (`length-listing`)
+unfoldable pub listingLength : ℕ → ℕ → ℕ → Expansion → ℕ
+listingLength n m k e =
+    12 + digitsOf (n ∷ m ∷ k ∷ e .mixed ∷ e .fixed ∷ e .products ∷ e .literals ∷ [])
+    + products n (at (e .coefficients)) * (5 + n + 1 + m + 1) + 4
 
 -- ---- numbers, each after a tab
 

@@ -3,10 +3,11 @@ use mathlib.Core.Path.{_≡_, sym, _∙_}
 use Prim.Native.Nat.{ℕ, _^_, _≤_, _<_}
 use native.Mathlib.Omega.{arith}
 use Rattle.numbers.specs.Bytes.{at}
-use Rattle.search.specs.Expansion.{Answered}
+use Rattle.search.proofs.expansion.Answer.{Answered}
 use Rattle.search.specs.declared.expansion.Expansion.{Expansion}
 use Rattle.expansions.proofs.Costs.{literals-lt}
-use Rattle.listings.specs.Listing.{listing, Listable}
+use Rattle.listings.specs.Listing.{listing}
+use Rattle.listings.specs.inner.Listable.{Listable}
 use Rattle.listings.specs.Meaning.{listingValue, listingProducts, listingLiterals, statedProducts, statedLiterals, IsListing}
 use Rattle.listings.proofs.Meaning.{listing-value, listing-products, listing-literals, stated-products, stated-literals}
 

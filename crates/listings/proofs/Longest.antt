@@ -12,14 +12,14 @@ use lib.ListN.{length}
 use lib.Pow.{pow-mono}
 use Rattle.numbers.specs.Bytes.{at}
 use Rattle.expansions.specs.Costs.{products}
-use Rattle.search.specs.Expansion.{Answered}
+use Rattle.search.proofs.expansion.Answer.{Answered}
 use Rattle.search.specs.declared.expansion.Expansion.{Expansion}
 use Rattle.expansions.proofs.Costs.{products-le}
 use Rattle.search.proofs.expansion.Full.{full-least}
 use Rattle.listings.specs.Listing.{digitCount, listing}
-use Rattle.listings.specs.inner.Lengths.{digitsOf, listingLength}
+use Rattle.listings.specs.inner.Lengths.{digitsOf}
+use Rattle.listings.proofs.Lengths.{listingLength, length-listing}
 use Rattle.listings.proofs.Characters.{digitCount-in}
-use Rattle.listings.proofs.Lengths.{length-listing}
 
 -- ---- how many digits
 

@@ -24,8 +24,10 @@ use Rattle.expansions.specs.Members.{polarity}
 use Rattle.search.specs.declared.expansion.Expansion.{Expansion}
 use Rattle.expansions.proofs.Costs.{products-le}
 use Rattle.listings.specs.Parts.{parts, bytes, same, fields}
-use Rattle.listings.specs.Listing.{tabbed, line, digitCount, decimal, cubeByte, cube, outputBytes, formLine, termLine, ifProduct, termLines, listing, Listable}
-use Rattle.listings.specs.Meaning.{cubeTrue, literalsIn, outputsSaid, finished, linesOf, ofTerm, overLines, overTerms, listingValue, listingProducts, listingLiterals, numberSaid, firstNumbers, statedProducts, statedLiterals}
+use Rattle.listings.specs.Listing.{tabbed, line, digitCount, decimal, cubeByte, cube, outputBytes, formLine, termLine, ifProduct, termLines, listing}
+use Rattle.listings.specs.inner.Listable.{Listable}
+use Rattle.listings.specs.Meaning.{cubeTrue, literalsIn, outputsSaid, finished, linesOf, ofTerm, overLines, overTerms}
+use Rattle.listings.specs.Meaning.{listingValue, listingProducts, listingLiterals, numberSaid, firstNumbers, statedProducts, statedLiterals}
 use Rattle.listings.proofs.Joined.{Plain, AllPlain, plain-descending, plain-tabulate, parts-fields, parts-lines}
 use Rattle.listings.proofs.Cubes.{cube-holds, cube-literals, outputs-said, decimal-said}
 use Rattle.listings.proofs.Lengths.{numbersOf, termsOf}

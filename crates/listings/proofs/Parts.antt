@@ -1,17 +1,18 @@
 -- A text parted at a byte. Its first part is the text up to that byte, or the whole text; the other parts are those of what follows
--- the byte. So a loop that finds the byte finds the parts.
+-- the byte. So a loop that finds the byte finds the parts. A text is its parts with a separator between each two (`parts-joined`).
 use mathlib.Core.Bool.{Bool, true, false}
-use mathlib.Core.List.{List, [], _∷_}
-use mathlib.Core.Path.{_≡_, refl, ap, _∙_}
+use mathlib.Core.List.{List, [], _∷_, _++_}
+use mathlib.Core.Path.{_≡_, refl, sym, ap, ap₂, _∙_}
 use Prim.Native.Nat.{ℕ, zero, suc, _+_, _-_, _<_, _≤_, zero-le, suc-le-suc}
 use native.Mathlib.Nat.{not-suc-le-zero}
 use native.Mathlib.Numerals.{add-one}
 use native.Mathlib.Omega.{arith}
-use borrow.Author.Tests.{eq-eqb, ne-eqb}
+use borrow.Author.Tests.{eqb-true, eq-eqb, ne-eqb}
 use lib.Dec.{eqb}
 use lib.ListN.{length, getD, take, drop, drop-of-length-le, length-drop}
 use lib.Seq.{drop-cons, drop-drop}
-use Rattle.listings.specs.Parts.{Parts, all, withByte, parts, stop}
+use Rattle.listings.specs.Parts.{Parts, all, withByte, parts}
+use Rattle.listings.specs.inner.Stops.{stop}
 
 -- ---- the first part
 
@@ -55,6 +56,30 @@ others-more separator (b ∷ s) h = go (eqb b separator) (others-more separator 
       → withByte t b (parts separator s) .others ≡ all (parts separator (drop (suc (length (withByte t b (parts separator s) .first))) (b ∷ s)))
   go true f g = refl
   go false f g = f (omega arith)
+
+pub others-le : (separator : ℕ) (s : List ℕ) → length (parts separator s .others) ≤ length s
+unfolding parts
+others-le separator [] = omega arith
+others-le separator (b ∷ s) = go (eqb b separator) (others-le separator s) where
+  go : (t : Bool) → length (parts separator s .others) ≤ length s → length (withByte t b (parts separator s) .others) ≤ suc (length s)
+  go true h = omega arith
+  go false h = omega arith
+
+-- ---- a text from its parts
+
+-- parts, each after a separator
+unfoldable pub separated : ℕ → List (List ℕ) → List ℕ
+separated b [] = []
+separated b (f ∷ fs) = b ∷ f ++ separated b fs
+
+pub parts-joined : (b : ℕ) (s : List ℕ) → parts b s .first ++ separated b (parts b s .others) ≡ s
+unfolding parts separated
+parts-joined b [] = refl
+parts-joined b (c ∷ s) = go (eqb c b) refl (parts-joined b s) where
+  go : (t : Bool) → eqb c b ≡ t → parts b s .first ++ separated b (parts b s .others) ≡ s
+      → withByte t c (parts b s) .first ++ separated b (withByte t c (parts b s) .others) ≡ c ∷ s
+  go true e h = ap₂ _∷_ (sym (eqb-true c b e)) h
+  go false e h = ap (λ (l : List ℕ). c ∷ l) h
 
 -- ---- the parts from a place on
 

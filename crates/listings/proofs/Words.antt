@@ -1,12 +1,14 @@
--- Two words compared byte by byte: what is left of the question after each byte.
-use mathlib.Core.Bool.{Bool, true, false, _&&_}
+-- Two words compared byte by byte: what is left of the question after each byte, and that words that pass are one (`same-equal`).
+use mathlib.Core.Bool.{true, false, _&&_, and-false, false≢true}
 use mathlib.Core.List.{List, [], _∷_}
-use mathlib.Core.Path.{_≡_, refl, ap}
+use mathlib.Core.Path.{_≡_, refl, ap, ap₂}
 use Prim.Native.Nat.{ℕ, suc, _+_, _<_, _≤_}
 use native.Mathlib.Numerals.{add-one}
+use borrow.Author.Tests.{eqb-true}
 use lib.Dec.{eqb}
 use lib.ListN.{length, getD, drop, drop-of-length-le}
 use lib.Seq.{drop-cons}
+use Rattle.numbers.proofs.Tests.{both-left, both-right}
 use Rattle.listings.specs.Parts.{same}
 
 -- ---- words
@@ -16,10 +18,15 @@ unfolding same
 same-lengths [] [] h = absurd (h refl)
 same-lengths [] (w ∷ ws) h = refl
 same-lengths (b ∷ f) [] h = refl
-same-lengths (b ∷ f) (w ∷ ws) h = rw (same-lengths f ws (λ e. h (ap suc e))) (and-false (eqb b w)) where
-  and-false : (t : Bool) → (t && false) ≡ false
-  and-false true = refl
-  and-false false = refl
+same-lengths (b ∷ f) (w ∷ ws) h = rw (same-lengths f ws (λ e. h (ap suc e))) (and-false (eqb b w))
+
+pub same-equal : (f w : List ℕ) → same f w ≡ true → f ≡ w
+unfolding same
+same-equal [] [] e = refl
+same-equal [] (w ∷ ws) e = absurd (false≢true e)
+same-equal (b ∷ f) [] e = absurd (false≢true e)
+same-equal (b ∷ f) (w ∷ ws) e =
+    ap₂ _∷_ (eqb-true b w (both-left (eqb b w) (same f ws) e)) (same-equal f ws (both-right (eqb b w) (same f ws) e))
 
 pub same-step : (f w : List ℕ) (k : ℕ) → k < length f → k < length w
     → same (drop k f) (drop k w) ≡ (eqb (getD f k 0) (getD w k 0) && same (drop (k + 1) f) (drop (k + 1) w))

@@ -1,8 +1,7 @@
 -- The listing of an expansion, byte by byte. Document 01, "Text in, listing out": "A listing .. is: `form` ..; one line for each product ..; `end`."
-use mathlib.Core.Path.{_≡_}
 use mathlib.Core.Bool.{cond}
 use mathlib.Core.List.{List, [], _∷_, _++_, map}
-use Prim.Native.Nat.{ℕ, zero, suc, _+_, _/_, _%_, _^_, _≤_, _<_}
+use Prim.Native.Nat.{ℕ, zero, suc, _+_, _/_, _%_, _^_}
 use lib.Dec.{ltb}
 use Rattle.numbers.specs.Bytes.{at, tabulate}
 use Rattle.numbers.specs.Bits.{bit}
@@ -29,11 +28,12 @@ descending (suc N) g = g N ∷ descending N g
 
 -- ---- numbers
 
--- how many digits x has: "its numbers have one to four digits"
+-- how many digits x has, where x is below 10,000, and else 4: "its numbers have one to four digits"
 unfoldable pub digitCount : ℕ → ℕ
 digitCount x = cond (ltb x 10) 1 (cond (ltb x 100) 2 (cond (ltb x 1000) 3 4))
 
--- x in base ten, the highest digit first, with "no leading zero but `0`"; the character `0` is byte 48
+-- x in base ten, where x is below 10,000, the highest digit first, with "no leading zero but `0`"; of a larger x its four lowest digits. The
+-- character `0` is byte 48
 unfoldable pub decimal : ℕ → List ℕ
 decimal x = descending (digitCount x) (λ i. 48 + x / 10 ^ i % 10)
 
@@ -81,11 +81,3 @@ productLines n m M i φ c = termLines n m (polarity n M i φ) c (2 ^ n)
 unfoldable pub listing : ℕ → ℕ → ℕ → Expansion → List ℕ
 listing n m k e =
     formLine n m k e ++ productLines n m (e .mixed) (e .fixed) (at (e .blocks)) (at (e .coefficients)) ++ line (bytes "end") []
-
--- an expansion that can be written: at most eight inputs and outputs, masks of n inputs, and as many products as its record states
-pub record Listable (n m : ℕ) (e : Expansion) : Type 0 where
-  pub inputs : n ≤ 8
-  pub outputs : m ≤ 8
-  pub mixed : e .mixed < 2 ^ n
-  pub fixed : e .fixed < 2 ^ n
-  pub counted : e .products ≡ products n (at (e .coefficients))

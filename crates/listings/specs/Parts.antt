@@ -2,12 +2,12 @@
 -- out".
 use mathlib.Core.Bool.{Bool, true, false, _&&_}
 use mathlib.Core.List.{List, [], _∷_}
-use Prim.Native.Nat.{ℕ, _+_}
+use Prim.Native.Nat.{ℕ}
 use Prim.Native.Char.{code}
 use Prim.Native.String.{String}
 use Prim.Native.String as string
 use lib.Dec.{eqb}
-use lib.ListN.{length, drop, getD}
+use lib.ListN.{getD}
 
 -- a text parted at a byte: what stands before the first such byte, and the parts after it
 pub record Parts : Type 0 where
@@ -27,10 +27,6 @@ withByte false b p = record { first = b ∷ p .first; others = p .others }
 unfoldable pub parts : ℕ → List ℕ → Parts
 parts separator [] = record { first = []; others = [] }
 parts separator (b ∷ s) = withByte (eqb b separator) b (parts separator s)
-
--- where the part that begins at a place stops: at the next separator, or at the end of the text
-abbrev pub stop : ℕ → List ℕ → ℕ → ℕ
-stop separator s at = at + length (parts separator (drop at s) .first)
 
 -- "Fields are parted by one tab (byte 9)."
 unfoldable pub fields : List ℕ → List (List ℕ)

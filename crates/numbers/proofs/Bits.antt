@@ -1,15 +1,27 @@
 -- The bits of a number: by the lowest bit and the rest, through an exclusive OR, and the bits of one number among those of another.
 use mathlib.Core.Path.{_≡_, refl, sym, ap, _∙_}
 use mathlib.Core.Bool.{Bool, true, _&&_}
-use Prim.Native.Nat.{ℕ, zero, suc, _+_, _*_, _/_, _%_, _^_, _<_, min}
-use native.Mathlib.Nat.{zero-div, div-one, pow-suc, mul-comm, div-div-eq-div-mul}
+use Prim.Native.Nat.{ℕ, zero, suc, _+_, _*_, _/_, _%_, _^_, _≤_, _<_, min}
+use native.Mathlib.Nat.{zero-div, div-one, pow-suc, mul-comm, div-div-eq-div-mul, div-eq-of-lt}
+use native.Mathlib.Decide.{decLe}
 use native.Mathlib.Omega.{arith}
-use lib.Arith.{bin-ind, digits-div, digits-mod}
+use borrow.Author.Tests.{ne-eqb}
+use lib.Arith.{bin-ind, digits-div, digits-mod, mod-mul}
 use lib.Bits.{bitXor, bitAnd, differ, and-step, xor-shr}
 use lib.Dec.{eqb, T, eqb→eq}
+use lib.Pow.{pow-pos}
 use Rattle.numbers.specs.Bits.{bit, inside}
-use Rattle.numbers.proofs.Tests.{and-intro, and-left, and-right, eqb-of, eqb-same, eqb-not}
+use Rattle.numbers.proofs.Tests.{and-intro, and-left, and-right, eqb-of, eqb-same}
 use Rattle.numbers.proofs.Xor.{low-lt, xor-low}
+
+-- ---- a number by its lowest digit and the rest
+
+pub div-digits : (n q b : ℕ) → b < 2 → (q * 2 + b) / 2 ^ suc n ≡ q / 2 ^ n
+div-digits n q b h =
+    ap (λ (y : ℕ). (q * 2 + b) / y) (pow-suc 2 n ∙ mul-comm (2 ^ n) 2) ∙ sym (div-div-eq-div-mul (q * 2 + b) 2 (2 ^ n)) ∙ ap (λ (y : ℕ). y / 2 ^ n) (digits-div q h)
+
+pub mod-digits : (n q b : ℕ) → b < 2 → (q * 2 + b) % 2 ^ suc n ≡ q % 2 ^ n * 2 + b
+mod-digits n q b h = ap (λ (x : ℕ). (q * 2 + b) % x) (pow-suc 2 n) ∙ mod-mul (q * 2 + b) (pow-pos n) (omega arith) ∙ rw (digits-div q h, digits-mod q h)
 
 -- ---- bits
 
@@ -28,6 +40,14 @@ bit-lt i x = low-lt (x / 2 ^ i)
 pub bit-of-zero : (i : ℕ) → bit i 0 ≡ 0
 bit-of-zero i = ap (λ (y : ℕ). y % 2) (zero-div (2 ^ i))
 
+-- a number with the bit s is at least 2 ^ s
+pub bit-le : (s q : ℕ) → bit s q ≡ 1 → 2 ^ s ≤ q
+bit-le s q e = go (decLe (2 ^ s) q)
+  where
+    go : Dec (2 ^ s ≤ q) → 2 ^ s ≤ q
+    go (yes l) = l
+    go (no l) = let h : q < 2 ^ s = omega arith in absurd (omega (arith, div-eq-of-lt h))
+
 -- ---- inside, by the lowest bit and the rest
 
 -- a digit that is 1 stands over a digit that is 1
@@ -44,7 +64,7 @@ inside-digits s b x h = rw (and-digits s b x h) (go b (x % 2) h (low-lt x))
   where
     go : (b y : ℕ) → b < 2 → y < 2 → eqb (bitAnd s (x / 2) * 2 + min b y) (s * 2 + b) ≡ (covered b y && eqb (bitAnd s (x / 2)) s)
     go zero y hb hy = eqb-same (bitAnd s (x / 2) * 2 + min 0 y) (s * 2 + 0) (bitAnd s (x / 2)) s (omega arith) (omega arith)
-    go (suc zero) zero hb hy = eqb-not (bitAnd s (x / 2) * 2 + 0) (s * 2 + 1) (omega arith)
+    go (suc zero) zero hb hy = ne-eqb (bitAnd s (x / 2) * 2 + 0) (s * 2 + 1) (omega arith)
     go (suc zero) (suc zero) hb hy = eqb-same (bitAnd s (x / 2) * 2 + 1) (s * 2 + 1) (bitAnd s (x / 2)) s (omega arith) (omega arith)
     go (suc zero) (suc (suc y)) hb hy = absurd (omega arith)
     go (suc (suc b)) y hb hy = absurd (omega arith)

@@ -1,6 +1,5 @@
 -- A list is the table of a function where its length and its elements say so (`is-table`), and a loop that fills a list from the front.
 use mathlib.Core.Path.{_≡_, refl, sym, ap, _∙_}
-use mathlib.Core.Logic.{_≢_}
 use mathlib.Core.List.{List}
 use Prim.Native.Nat.{ℕ, zero, suc, _+_, _≤_, _<_}
 use native.Mathlib.Nat.{le-of-suc-le-suc, not-suc-le-zero}
@@ -31,14 +30,6 @@ is-table N g b l e =
 pub tabulate-ext : (N : ℕ) (g h : ℕ → ℕ) → ((t : ℕ) → t < N → g t ≡ h t) → tabulate N g ≡ tabulate N h
 tabulate-ext N g h e = is-table N h (tabulate N g) (length-tabulate N g) (λ t l. at-tabulate N g t l ∙ e t l)
 
--- ---- one store
-
-pub at-set : (b : List ℕ) (i v : ℕ) → i < length b → at (set b i v) i ≡ v
-at-set b i v h = getD-set-same b i v 0 h
-
-pub at-set-other : (b : List ℕ) (i v j : ℕ) → j ≢ i → at (set b i v) j ≡ at b j
-at-set-other b i v j n = getD-set-other b i j v 0 n
-
 -- ---- a list that is filled from the front
 
 -- `after` is `before` with the first q places filled by g
@@ -55,12 +46,12 @@ filled-more g q before after v h e f =
     record {
       long = length-set after q v ∙ f .long;
       done = λ t l. go t l (ℕ-discrete t q);
-      kept = λ t l. at-set-other after q v t (omega arith) ∙ f .kept t (omega arith);
+      kept = λ t l. getD-set-other after q t v 0 (omega arith) ∙ f .kept t (omega arith);
     }
   where
     go : (t : ℕ) → t < q + 1 → Dec (t ≡ q) → at (set after q v) t ≡ g t
-    go t l (yes e′) = rw e′ (at-set after q v h ∙ e)
-    go t l (no n) = at-set-other after q v t n ∙ f .done t (omega arith)
+    go t l (yes e′) = rw e′ (getD-set-same after q v 0 h ∙ e)
+    go t l (no n) = getD-set-other after q t v 0 n ∙ f .done t (omega arith)
 
 pub filled-all : (g : ℕ → ℕ) (q : ℕ) (before after : List ℕ) → length after ≤ q → Filled g q before after → after ≡ tabulate (length before) g
 filled-all g q before after h f = is-table (length before) g after (f .long) (λ t l. f .done t (omega (arith, f .long)))

@@ -21,9 +21,6 @@ eqb-of a b e = subst (λ (x : ℕ). T (eqb a x)) e (eqb-refl a)
 pub eqb-same : (a b c d : ℕ) → (a ≡ b → c ≡ d) → (c ≡ d → a ≡ b) → eqb a b ≡ eqb c d
 eqb-same a b c d f g = same-test (eqb a b) (eqb c d) (λ t. eqb-of c d (f (eqb→eq a b t))) (λ t. eqb-of a b (g (eqb→eq c d t)))
 
-pub eqb-not : (a b : ℕ) → (a ≡ b → ⊥) → eqb a b ≡ false
-eqb-not a b f = same-test (eqb a b) false (λ t. f (eqb→eq a b t)) (λ t. absurd t)
-
 pub and-intro : (a b : Bool) → T a → T b → T (a && b)
 and-intro true b x y = y
 and-intro false b x y = x

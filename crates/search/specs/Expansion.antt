@@ -8,7 +8,7 @@ use Rattle.numbers.specs.Bytes.{at, tabulate, allBelow}
 use Rattle.numbers.specs.Refusals.{sizesRefusal}
 use Rattle.expansions.specs.Members.{polarity}
 use Rattle.expansions.specs.Costs.{products, literals}
-use Rattle.expansions.specs.Answers.{Minimal, answerMixed, answerFixed, answerPolarity, answerCoefficient}
+use Rattle.expansions.specs.Answers.{answerMixed, answerFixed, answerPolarity, answerCoefficient}
 use Rattle.search.specs.declared.expansion.Expansion.{Expansion}
 
 -- "the search hands up an expansion record that holds the 256 coefficient places, zero from 2^n on", and as many block places
@@ -22,10 +22,6 @@ answerExpansion n k f =
       products = products n (answerCoefficient n k f);
       literals = literals n (answerCoefficient n k f);
     }
-
--- the record holds the answer for the table f: "the member that gives the table with fewest products, .."
-abbrev pub Answered : ℕ → ℕ → (ℕ → ℕ) → Expansion → Type 0
-Answered n k f e = Minimal n k f (e .mixed) (e .fixed) (at (e .blocks)) (at (e .coefficients)) (e .products) (e .literals)
 
 -- "All zero: M = 2^k − 1, i = 0, 0 products", with no more than the eight inputs in M
 unfoldable pub emptyExpansion : ℕ → Expansion

@@ -4,7 +4,7 @@ ghost use Prim.Native.Nat.{_-_, _<_};
 ghost use lib.ListN.{length};
 ghost use Rattle.numbers.specs.Bytes.{at, tabulate};
 ghost use Rattle.expansions.specs.BlockTable.{blockTable};
-ghost use Rattle.expansions.specs.Charges.{byteCharge};
+ghost use Rattle.expansions.specs.inner.Charges.{byteCharge};
 ghost use Rattle.search.specs.Expansion.{answerExpansion, searchable, searched};
 ghost use Rattle.search.specs.inner.Search.{Limits, Given, Room};
 use crate::charges::byte_charges;

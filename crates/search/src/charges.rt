@@ -7,7 +7,7 @@ ghost use lib.Count.{ones};
 ghost use lib.ListN.{length};
 ghost use Rattle.numbers.specs.Bytes.{at, tabulate};
 ghost use Rattle.expansions.specs.BlockTable.{entry, blockTable};
-ghost use Rattle.expansions.specs.Charges.{byteCharge};
+ghost use Rattle.expansions.specs.inner.Charges.{byteCharge};
 ghost use Rattle.search.specs.inner.Search.{usedAt, usedCharge, IsCheapest};
 use crate::points::ones_in;
 

@@ -7,7 +7,7 @@ ghost use Rattle.numbers.specs.Bytes.{at, tabulate};
 ghost use Rattle.numbers.specs.Bits.{bit, pack};
 ghost use Rattle.expansions.specs.Split as Split;
 ghost use Rattle.expansions.specs.BlockTable.{entry, blockTable};
-ghost use Rattle.expansions.specs.Charges.{byteCharge};
+ghost use Rattle.expansions.specs.inner.Charges.{byteCharge};
 ghost use Rattle.search.specs.Expansion.{answerExpansion};
 ghost use Rattle.search.specs.inner.Search.{Limits, Given, Room, polarityAt, coefficientAt, Leads};
 use crate::charges::cheapest_block;

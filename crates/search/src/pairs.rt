@@ -6,7 +6,7 @@ ghost use lib.Count.{onesIn, ones};
 ghost use lib.ListN.{length};
 ghost use Rattle.numbers.specs.Bytes.{at, tabulate};
 ghost use Rattle.expansions.specs.BlockTable.{blockTable};
-ghost use Rattle.expansions.specs.Charges.{byteCharge};
+ghost use Rattle.expansions.specs.inner.Charges.{byteCharge};
 ghost use Rattle.expansions.specs.Answers.{pairCharge};
 ghost use Rattle.search.specs.inner.Search.{Limits, Given, Room, Tried, usedAt, usedCharge, Leads};
 use crate::charges::cheapest_block;

@@ -24,7 +24,7 @@ use Rattle.listings.specs.Listing.{tabbed, line, decimal, outputBytes}
 use Rattle.numbers.specs.Refusals.{Sized}
 use Rattle.table_texts.specs.Accepted.{Table, Accepted}
 use Rattle.table_texts.specs.Read.{Reading, given, ended, laterLines, judgedFirst, allLines, reading}
-use Rattle.table_texts.proofs.read.Accepted.{getD-zeros}
+use Rattle.numbers.proofs.Tables.{getD-zeros}
 use Rattle.listings.proofs.Joined.{Plain, parts-fields, parts-lines}
 use Rattle.listings.proofs.Meaning.{plain-decimal, plain-outputs}
 use Rattle.numbers.proofs.Shifts.{points-le}

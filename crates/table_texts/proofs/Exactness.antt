@@ -26,13 +26,15 @@ use Rattle.table_texts.specs.Lines.{firstLine, laterLine}
 use Rattle.listings.specs.Listing.{tabbed, line, decimal, outputBytes}
 use Rattle.table_texts.specs.Accepted.{Accepted}
 use Rattle.table_texts.specs.Read.{given, refused, ended, judgedLater, laterLines, judgedFirst, opened, allLines, reading}
-use Rattle.table_texts.proofs.read.Accepted.{no-refusal, unfinished-refused, refused-given, getD-zeros, first-sized, reading-accepted, sizes-given}
+use Rattle.table_texts.proofs.read.Accepted.{no-refusal, unfinished-refused, refused-given, ended-read, first-sized, reading-accepted, sizes-given}
 use Rattle.numbers.proofs.Shifts.{points-le}
+use Rattle.listings.proofs.Parts.{separated, parts-joined}
+use Rattle.numbers.proofs.Tables.{getD-zeros}
 use Rattle.numbers.proofs.Tests.{both-left, both-right}
 use Rattle.table_texts.specs.TableTexts.{pointLine, pointLines, sizesLine, textWith, tableText, dashText}
 use Rattle.table_texts.proofs.Acceptance.{table-text-accepted, dash-text-accepted}
 use Rattle.table_texts.proofs.FieldsRead.{mixed-read}
-use Rattle.table_texts.proofs.LinesRead.{separated, parts-joined, PointRead, point-line-read, end-read, sizes-read}
+use Rattle.table_texts.proofs.LinesRead.{PointRead, point-line-read, end-read, sizes-read}
 use Rattle.table_texts.proofs.PointLines.{listed-some, pointLines-more, pointLines-ext, pointLines-zero}
 use Rattle.numbers.specs.Refusals.{sizesRefusal}
 
@@ -68,18 +70,6 @@ module _ (z : Sizes) (least : ℕ) (t : List ℕ) (g : UpTo z least t) (low : 2 
 pointLine-ended : (m p o : ℕ) (l s : List ℕ) → l ≡ bytes "on" ++ tabbed (decimal p ∷ outputBytes m o ∷ []) → l ++ 10 ∷ s ≡ pointLine m p o ++ s
 unfolding pointLine line
 pointLine-ended m p o l s e = rw e (sym (append-assoc (bytes "on" ++ tabbed (decimal p ∷ outputBytes m o ∷ [])) (10 ∷ []) s))
-
--- no byte stands after the `end` line
-record Ended (z y : Sizes) (t u l : List ℕ) (ls : List (List ℕ)) : Type 0 where
-  sizes : z ≡ y
-  table : t ≡ u
-  none : l ++ separated 10 ls ≡ []
-
-ended-read : (z y : Sizes) (number : ℕ) (t u l : List ℕ) (ls : List (List ℕ)) → ended z number t l ls ≡ given y u → Ended z y t u l ls
-unfolding ended separated
-ended-read z y number t u [] [] e = record { sizes = cc; table = cc; none = refl }
-ended-read z y number t u [] (l ∷ ls) e = absurd (no-refusal e)
-ended-read z y number t u (b ∷ l) ls e = absurd (no-refusal e)
 
 -- the sizes given are z, and the text from its second line on is the points' lines and the `end` line
 record AfterFirst (z y : Sizes) (u s : List ℕ) : Type 0 where

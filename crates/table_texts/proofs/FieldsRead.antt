@@ -1,48 +1,23 @@
 -- A field that says a number or outputs is the field that is written for them: there is one way to write a point (`point-read`) and
 -- outputs (`outputs-read`), and for k one digit or `-` (`mixed-read`).
-use mathlib.Core.Bool.{Bool, true, false, cond, _&&_, not, false≢true}
+use mathlib.Core.Bool.{Bool, true, false, cond, not, false≢true}
 use mathlib.Core.List.{List, [], _∷_}
 use mathlib.Core.Logic.{_⊎_, inl, inr}
 use mathlib.Core.Path.{_≡_, refl, sym, ap, ap₂, _∙_}
 use Prim.Native.Nat.{ℕ, suc, _+_, _-_, _*_, _/_, _%_, _≤_, _<_}
 use native.Mathlib.Omega.{arith}
-use borrow.Author.Tests.{leb-true, eqb-true, eqb-false, not-true}
-use lib.Dec.{leb, ltb, eqb}
+use borrow.Author.Tests.{eqb-true, eqb-false, not-true}
+use lib.Dec.{eqb}
 use lib.ListN.{length}
 use Rattle.table_texts.specs.declared.fields.Number.the-variants.{Is, Wrong}
 use Rattle.table_texts.specs.declared.fields.Number.{Number}
 use Rattle.listings.specs.Parts.{bytes, same}
 use Rattle.table_texts.specs.Fields.{andThen, digit, oneDigit, mixed, digitsFrom, wellFormed, point, bits, outputs}
 use Rattle.listings.specs.Listing.{decimal, outputBytes}
-use Rattle.table_texts.proofs.Numbers.{wrong-is, digit-lt, wellFormed-le}
-use Rattle.numbers.proofs.Tests.{both-left, both-right}
-use Rattle.table_texts.proofs.Written.{decimal-one, decimal-two, decimal-three, outputs-cons, outputs-none}
-
--- ---- words
-
-pub same-equal : (f w : List ℕ) → same f w ≡ true → f ≡ w
-unfolding same
-same-equal [] [] e = refl
-same-equal [] (w ∷ ws) e = absurd (false≢true e)
-same-equal (b ∷ f) [] e = absurd (false≢true e)
-same-equal (b ∷ f) (w ∷ ws) e =
-    ap₂ _∷_ (eqb-true b w (both-left (eqb b w) (same f ws) e)) (same-equal f ws (both-right (eqb b w) (same f ws) e))
-
--- ---- one digit
-
--- a number that is read under a test: the test passes
-under-test : (t : Bool) (x : Number) (v : ℕ) → cond t x Wrong ≡ Is v → (t ≡ true) × (x ≡ Is v)
-under-test true x v e = (refl, e)
-under-test false x v e = absurd (wrong-is e)
-
-digit-byte : (base b v : ℕ) → digit base b ≡ Is v → b ≡ 48 + v
-unfolding digit
-digit-byte base b v e =
-    let passes = under-test (leb 48 b && ltb (b - 48) base) (Is (b - 48)) v e in
-    let least : 48 ≤ b = leb-true 48 b (both-left (leb 48 b) (ltb (b - 48) base) (passes .0)) in
-    let said : Is (b - 48) ≡ Is v = passes .1 in
-    let value : b - 48 ≡ v = cc in
-    omega arith
+use Rattle.table_texts.proofs.Numbers.{wrong-is, under-test, digit-lt, digit-byte, wellFormed-le, outputs-is}
+use Rattle.listings.proofs.Words.{same-equal}
+use Rattle.table_texts.proofs.Written.{decimal-one, decimal-two, decimal-three}
+use Rattle.listings.proofs.Cubes.{outputs-none, outputs-cons}
 
 -- ---- n, m and k
 
@@ -137,18 +112,6 @@ bits-read (b ∷ f) v e = go (digit 2 b) (bits f) refl refl (bits-read f) e wher
   go Wrong r p q ih g = absurd (wrong-is g)
 
 pub outputs-read : (m : ℕ) (f : List ℕ) (v : ℕ) → outputs m f ≡ Is v → (f ≡ outputBytes m v) × (v ≡ 0 → ⊥)
-unfolding outputs
 outputs-read m f v e =
-    let passes = under-test (eqb (length f) m) (andThen (bits f) Wrong (λ v. cond (eqb v 0) Wrong (Is v))) v e in
-    go (bits f) refl (eqb-true (length f) m (passes .0)) (passes .1)
-  where
-    some : (u : ℕ) (t : Bool) → eqb u 0 ≡ t → cond t Wrong (Is u) ≡ Is v → (u ≡ v) × (v ≡ 0 → ⊥)
-    some u true h g = absurd (wrong-is g)
-    some u false h g = let value : u ≡ v = cc in (value, λ z. eqb-false u 0 h (value ∙ z))
-
-    go : (r : Number) → bits f ≡ r → length f ≡ m → andThen r Wrong (λ v. cond (eqb v 0) Wrong (Is v)) ≡ Is v
-        → (f ≡ outputBytes m v) × (v ≡ 0 → ⊥)
-    go (Is u) p long g =
-        let found = some u (eqb u 0) refl g in
-        (bits-read f u p ∙ ap₂ outputBytes long (found .0), found .1)
-    go Wrong p long g = absurd (wrong-is g)
+    let said = outputs-is m f v e in
+    (bits-read f v (said .1) ∙ ap (λ (m : ℕ). outputBytes m v) (said .0), said .2)

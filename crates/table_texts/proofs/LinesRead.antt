@@ -1,5 +1,5 @@
 -- A line that says sizes, a point with its outputs, or the end is the line that is written for them (`sizes-read`, `point-line-read`,
--- `end-read`). A text is its parts with a separator between each two (`parts-joined`).
+-- `end-read`).
 use mathlib.Core.Bool.{Bool, true, false, cond}
 use mathlib.Core.List.{List, [], _∷_, _++_}
 use mathlib.Core.Path.{_≡_, refl, sym, ap, ap₂, _∙_}
@@ -13,29 +13,17 @@ use Rattle.table_texts.specs.declared.fields.Number.{Number}
 use Rattle.table_texts.specs.declared.lines.FirstLine.the-variants as first
 use Rattle.table_texts.specs.declared.lines.LaterLine.the-variants as later
 use Rattle.table_texts.specs.declared.sizes.Sizes.{Sizes}
-use Rattle.listings.specs.Parts.{withByte, parts, bytes, same, fields, field}
+use Rattle.listings.specs.Parts.{parts, bytes, same, fields, field}
 use Rattle.table_texts.specs.Fields.{oneDigit, mixed, point, outputs}
 use Rattle.table_texts.specs.Lines.{headed, tableLine, firstLine, onLine, laterLine}
 use Rattle.listings.specs.Listing.{tabbed, decimal, outputBytes}
-use Rattle.table_texts.proofs.read.Accepted.{wrong-on, end-on}
+use Rattle.table_texts.proofs.read.Accepted.{wrong-on, end-on, on-read}
+use Rattle.listings.proofs.Parts.{separated, parts-joined}
+use Rattle.listings.proofs.Words.{same-equal}
 use Rattle.numbers.proofs.Tests.{both-left, both-right}
-use Rattle.table_texts.proofs.FieldsRead.{same-equal, oneDigit-read, point-read, outputs-read}
+use Rattle.table_texts.proofs.FieldsRead.{oneDigit-read, point-read, outputs-read}
 
--- ---- a text from its parts
-
--- parts, each after a separator
-unfoldable pub separated : ℕ → List (List ℕ) → List ℕ
-separated b [] = []
-separated b (f ∷ fs) = b ∷ f ++ separated b fs
-
-pub parts-joined : (b : ℕ) (s : List ℕ) → parts b s .first ++ separated b (parts b s .others) ≡ s
-unfolding parts separated
-parts-joined b [] = refl
-parts-joined b (c ∷ s) = go (eqb c b) refl (parts-joined b s) where
-  go : (t : Bool) → eqb c b ≡ t → parts b s .first ++ separated b (parts b s .others) ≡ s
-      → withByte t c (parts b s) .first ++ separated b (withByte t c (parts b s) .others) ≡ c ∷ s
-  go true e h = ap₂ _∷_ (sym (eqb-true c b e)) h
-  go false e h = ap (λ (l : List ℕ). c ∷ l) h
+-- ---- a line from its fields
 
 tabbed-separated : (fs : List (List ℕ)) → tabbed fs ≡ separated 9 fs
 unfolding tabbed separated
@@ -72,11 +60,6 @@ pub record PointRead (m : ℕ) (l : List ℕ) (p o : ℕ) : Type 0 where
 
 wrong-end : later.Wrong ≡ later.End → ⊥
 wrong-end e = let z : _≡_ {A = ℕ} 0 1 = cc in omega arith
-
-on-read : (x y : Number) (p o : ℕ) → onLine x y ≡ later.On p o → (x ≡ Is p) × (y ≡ Is o)
-on-read (Is a) (Is b) p o e = (cc, cc)
-on-read (Is a) Wrong p o e = absurd (wrong-on e)
-on-read Wrong y p o e = absurd (wrong-on e)
 
 pub point-line-read : (m : ℕ) (l : List ℕ) (p o : ℕ) → laterLine m l ≡ later.On p o → PointRead m l p o
 unfolding laterLine fields

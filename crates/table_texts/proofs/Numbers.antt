@@ -2,12 +2,12 @@
 -- what is read. A digit is below its base, and m characters say a number below 2 ^ m.
 use mathlib.Core.Bool.{Bool, true, false, cond, _&&_, _||_, not}
 use mathlib.Core.List.{List, [], _∷_}
-use mathlib.Core.Path.{_≡_, refl}
+use mathlib.Core.Path.{_≡_, refl, _∙_}
 use Prim.Native.Nat.{ℕ, zero, suc, _+_, _-_, _*_, _^_, _<_, _≤_}
 use native.Mathlib.Nat.{not-suc-le-zero, pow-suc, pow-le-pow-right, lt-of-lt-of-le}
 use native.Mathlib.Numerals.{add-one}
 use native.Mathlib.Omega.{arith}
-use borrow.Author.Tests.{ltb-true, leb-true, eqb-true, eq-eqb}
+use borrow.Author.Tests.{ltb-true, leb-true, eqb-true, eqb-false, eq-eqb}
 use lib.Dec.{leb, ltb, eqb, lit<}
 use lib.ListN.{length, getD, drop, drop-of-length-le, length-drop}
 use lib.Pow.{pow-mono}
@@ -22,12 +22,26 @@ use Rattle.numbers.proofs.Tests.{both-left, both-right}
 pub wrong-is : {v : ℕ} → Wrong ≡ Is v → ⊥
 wrong-is e = let z : _≡_ {A = ℕ} 0 1 = cc in omega arith
 
-pub digit-lt : (base b v : ℕ) → digit base b ≡ Is v → v < base
+-- a number that is read under a test: the test passes
+pub under-test : (t : Bool) (x : Number) (v : ℕ) → cond t x Wrong ≡ Is v → (t ≡ true) × (x ≡ Is v)
+under-test true x v e = (refl, e)
+under-test false x v e = absurd (wrong-is e)
+
+-- what a byte says is its distance from `0`, and below the base
+digit-read : (base b v : ℕ) → digit base b ≡ Is v → (48 ≤ b) × (b - 48 ≡ v) × (v < base)
 unfolding digit
-digit-lt base b v e = go (leb 48 b && ltb (b - 48) base) refl e where
-  go : (t : Bool) → (leb 48 b && ltb (b - 48) base) ≡ t → cond t (Is (b - 48)) Wrong ≡ Is v → v < base
-  go true h g = let same : b - 48 ≡ v = cc in omega (arith, ltb-true (b - 48) base (both-right (leb 48 b) (ltb (b - 48) base) h))
-  go false h g = absurd (wrong-is g)
+digit-read base b v e =
+    let passes = under-test (leb 48 b && ltb (b - 48) base) (Is (b - 48)) v e in
+    let least : 48 ≤ b = leb-true 48 b (both-left (leb 48 b) (ltb (b - 48) base) (passes .0)) in
+    let said : Is (b - 48) ≡ Is v = passes .1 in
+    let value : b - 48 ≡ v = cc in
+    (least, value, omega (arith, ltb-true (b - 48) base (both-right (leb 48 b) (ltb (b - 48) base) (passes .0))))
+
+pub digit-lt : (base b v : ℕ) → digit base b ≡ Is v → v < base
+digit-lt base b v e = digit-read base b v e .2
+
+pub digit-byte : (base b v : ℕ) → digit base b ≡ Is v → b ≡ 48 + v
+digit-byte base b v e = let said = digit-read base b v e in omega (arith, said .0, said .1)
 
 -- ---- numbers, from the left
 
@@ -103,15 +117,20 @@ pub outputs-bits : (f : List ℕ) (v : ℕ) → bits f ≡ Is v → outputs (len
 unfolding outputs
 outputs-bits f v e = rw (eq-eqb (length f) (length f) refl, e)
 
-pub outputs-lt : (m : ℕ) (f : List ℕ) (v : ℕ) → outputs m f ≡ Is v → v < 2 ^ m
+pub outputs-is : (m : ℕ) (f : List ℕ) (v : ℕ) → outputs m f ≡ Is v → (length f ≡ m) × (bits f ≡ Is v) × (v ≡ 0 → ⊥)
 unfolding outputs
-outputs-lt m f v e = go (eqb (length f) m) (bits f) refl refl e where
-  zeroless : (u : ℕ) (t : Bool) → bits f ≡ Is u → length f ≡ m → cond t Wrong (Is u) ≡ Is v → v < 2 ^ m
-  zeroless u true p h g = absurd (wrong-is g)
-  zeroless u false p h g = let same : u ≡ v = cc in rw (← same, ← h) (bits-lt f u p)
+outputs-is m f v e =
+    let passes = under-test (eqb (length f) m) (andThen (bits f) Wrong (λ u. cond (eqb u 0) Wrong (Is u))) v e in
+    let found = go (bits f) refl (passes .1) in
+    (eqb-true (length f) m (passes .0), found .0, found .1)
+  where
+    some : (u : ℕ) (t : Bool) → eqb u 0 ≡ t → cond t Wrong (Is u) ≡ Is v → (Is u ≡ Is v) × (v ≡ 0 → ⊥)
+    some u true h g = absurd (wrong-is g)
+    some u false h g = let value : u ≡ v = cc in (g, λ z. eqb-false u 0 h (value ∙ z))
 
-  go : (t : Bool) (r : Number) → eqb (length f) m ≡ t → bits f ≡ r
-      → cond t (andThen r Wrong (λ u. cond (eqb u 0) Wrong (Is u))) Wrong ≡ Is v → v < 2 ^ m
-  go true (Is u) h p g = zeroless u (eqb u 0) p (eqb-true (length f) m h) g
-  go true Wrong h p g = absurd (wrong-is g)
-  go false r h p g = absurd (wrong-is g)
+    go : (r : Number) → bits f ≡ r → andThen r Wrong (λ u. cond (eqb u 0) Wrong (Is u)) ≡ Is v → (bits f ≡ Is v) × (v ≡ 0 → ⊥)
+    go (Is u) p g = let found = some u (eqb u 0) refl g in (p ∙ found .0, found .1)
+    go Wrong p g = absurd (wrong-is g)
+
+pub outputs-lt : (m : ℕ) (f : List ℕ) (v : ℕ) → outputs m f ≡ Is v → v < 2 ^ m
+outputs-lt m f v e = let said = outputs-is m f v e in rw (← said .0) (bits-lt f v (said .1))

@@ -4,20 +4,17 @@ use mathlib.Core.Bool.{Bool, true, false, not}
 use mathlib.Core.List.{[], _∷_}
 use mathlib.Core.Path.{_≡_, refl, ap, _∙_}
 use Prim.Native.Nat.{ℕ, zero, suc, _+_, _-_, _*_, _/_, _%_, _^_, _≤_, _<_}
-use native.Mathlib.Nat.{pow-suc, div-eq-of-lt, div-div-eq-div-mul, div-one}
+use native.Mathlib.Nat.{div-eq-of-lt, div-one}
 use native.Mathlib.Omega.{arith}
 use borrow.Author.Tests.{lt-ltb, le-ltb, le-leb, eq-eqb, ne-eqb, ltb-true, ltb-false}
 use lib.Dec.{ltb, eqb}
 use Rattle.numbers.specs.Bytes.{tabulate}
-use Rattle.numbers.specs.Bits.{bit}
-use Rattle.numbers.proofs.Bytes.{tabulate-ext}
-use Rattle.numbers.proofs.Bits.{bit-zero, bit-suc}
 use Rattle.table_texts.specs.declared.fields.Number.the-variants.{Is}
 use Rattle.listings.specs.Parts.{bytes, same}
 use Rattle.table_texts.specs.Fields.{digit, oneDigit, mixed, digitsFrom, wellFormed, point, bits, outputs}
 use Rattle.listings.specs.Listing.{descending, digitCount, decimal, outputBytes}
 use Rattle.listings.proofs.Characters.{length-outputs}
-use Rattle.listings.proofs.Cubes.{digitCount-bound}
+use Rattle.listings.proofs.Cubes.{outputs-cons, digits-next, digitCount-bound}
 use Rattle.listings.proofs.Longest.{digitCount-one}
 
 -- ---- one digit
@@ -73,9 +70,7 @@ digits-written : (d x : ℕ) → digitsFrom (x / 10 ^ d) (descending d (λ i. 48
 unfolding digitsFrom descending
 digits-written zero x = ap Is (div-one x)
 digits-written (suc d) x =
-    let high : x / 10 ^ d / 10 ≡ x / 10 ^ suc d = div-div-eq-div-mul x (10 ^ d) 10 ∙ rw pow-suc in
-    let e : x / 10 ^ suc d * 10 + x / 10 ^ d % 10 ≡ x / 10 ^ d = omega (arith, high) in
-    rw (digit-written 10 (x / 10 ^ d % 10) (omega arith), e) (digits-written d x)
+    rw (digit-written 10 (x / 10 ^ d % 10) (omega arith), digits-next d x) (digits-written d x)
 
 digits-decimal : (x : ℕ) → x < 1000 → digitsFrom 0 (decimal x) ≡ Is x
 unfolding decimal
@@ -99,19 +94,6 @@ unfolding point
 point-decimal x h = rw (wellFormed-decimal x h) (digits-decimal x h)
 
 -- ---- outputs
-
-outputs-tail : (m c : ℕ) → tabulate m (λ i. 48 + bit (suc i) c) ≡ outputBytes m (c / 2)
-unfolding outputBytes
-outputs-tail m c = tabulate-ext m _ _ (λ i l. ap (λ (x : ℕ). 48 + x) (bit-suc i c))
-
-pub outputs-none : (c : ℕ) → outputBytes 0 c ≡ []
-unfolding outputBytes tabulate
-outputs-none c = refl
-
--- the first character is the lowest bit, and the others are those of the other bits
-pub outputs-cons : (m c : ℕ) → outputBytes (suc m) c ≡ (48 + c % 2) ∷ outputBytes m (c / 2)
-unfolding outputBytes tabulate
-outputs-cons m c = rw (outputs-tail m c, bit-zero c)
 
 bits-written : (m c : ℕ) → c < 2 ^ m → bits (outputBytes m c) ≡ Is c
 unfolding bits outputBytes tabulate

@@ -2,7 +2,7 @@
 // Its methods take it by value and return the advanced one.
 ghost use mathlib.Core.Path.{_≡_};
 ghost use Prim.Native.Nat.{_<_, _+_, _^_};
-ghost use Rattle.listings.specs.Parts.{stop};
+ghost use Rattle.listings.specs.inner.Stops.{stop};
 
 pub struct Cursor {
     pub at: usize,

@@ -38,3 +38,5 @@ pub record Print (input held : List ℕ) (count : ℕ) : Type 0 where
   pub shown : take count held ≡ printed input
   pub meaning : (z : Sizes) (table : List ℕ) → reading (judged input) ≡ given z table → IsListing (z .n) (z .k) (at table) (take count held)
   pub refusal : (number l : ℕ) → reading (judged input) ≡ refused number l → firstNumbers (take count held) ≡ number ∷ l ∷ []
+  -- "(every text that can be accepted is shorter)": where the whole input is a text that is accepted, its listing is printed
+  pub whole : (z : Sizes) (table : List ℕ) → reading input ≡ given z table → take count held ≡ answerListing z table

@@ -16,7 +16,7 @@ pub struct Printed {
 }
 
 impl Printed {
-    // How many bytes of standard input are judged as the whole text.
+    // How many bytes of standard input are judged as the whole text. Every text that can be accepted is shorter: `Print .whole`.
     pub const INPUT_BYTES: usize = 8192;
 
     // The length of the longest listing. The line `refused` is shorter.

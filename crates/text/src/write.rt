@@ -10,7 +10,8 @@ ghost use Prim.Native.Nat.{_+_, _*_, _^_, _≤_, _<_};
 ghost use lib.ListN.{length};
 ghost use Rattle.numbers.specs.Bytes.{at};
 ghost use Rattle.listings.specs.Parts.{bytes};
-ghost use Rattle.listings.specs.Listing.{tabbed, line, decimal, ifProduct, termLine, productLines, Listable};
+ghost use Rattle.listings.specs.Listing.{tabbed, line, decimal, ifProduct, termLine, productLines};
+ghost use Rattle.listings.specs.inner.Listable.{Listable};
 ghost use Rattle.listings.specs.inner.Lengths.{digitsOf};
 ghost use Rattle.text.specs.inner.Write.{Put, WriteListing};
 

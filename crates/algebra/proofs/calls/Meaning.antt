@@ -39,7 +39,8 @@ coefficients-one n m w table before a =
     (tabulate-ext (2 ^ n) _ _ (λ t h.
     ap (coefficient n w (functionAt n table t)) (mod-eq-of-lt h) ∙ coefficient-ext n w _ _ (a .polarity) (λ q l. function-one n table t q h) t))
 
-values-one : (n m w : ℕ) (coefficients before : List ℕ) → Accepted n m w coefficients (length before) → valueBytes n w coefficients before ≡ tabulate (2 ^ n) (value n (λ t. w) (at coefficients))
+values-one : (n m w : ℕ) (coefficients before : List ℕ) → Accepted n m w coefficients (length before)
+    → valueBytes n w coefficients before ≡ tabulate (2 ^ n) (value n (λ t. w) (at coefficients))
 unfolding valueBytes
 values-one n m w coefficients before a = rw (accepted-fits n m w coefficients before a, eq-eqb (length before) (2 ^ n) (a .lent-long))
 
@@ -104,7 +105,8 @@ forward-refused n m w table before x e h =
       outputs = λ r. refused-not-done x r;
     }
 
-pub backward-refused : (n m w : ℕ) (coefficients before : List ℕ) (x : ℕ) → x ≡ transformRefusal n m w coefficients (length before) → (x ≡ 0 → ⊥) → Backward n m w coefficients before before (Refused x 0)
+pub backward-refused : (n m w : ℕ) (coefficients before : List ℕ) (x : ℕ) → x ≡ transformRefusal n m w coefficients (length before)
+    → (x ≡ 0 → ⊥) → Backward n m w coefficients before before (Refused x 0)
 backward-refused n m w coefficients before x e h =
     record {
       answer = rw (← e) (sym (answered-refused x h));

@@ -3,12 +3,11 @@
 use mathlib.Core.Path.{_≡_, refl, sym, ap, ap₂, _∙_, fun-ext}
 use mathlib.Core.List.{List}
 use Prim.Native.Nat.{ℕ, zero, suc, _+_, _-_, _*_, _/_, _%_, _^_, _≤_, _<_}
-use native.Mathlib.Nat.{div-add-mod', pow-suc, mul-comm, add-zero, div-one, zero-mod, div-div-eq-div-mul, div-eq-of-lt}
-use native.Mathlib.Decide.{decLe}
+use native.Mathlib.Nat.{div-add-mod', pow-suc, add-zero, div-one, zero-mod}
 use native.Mathlib.Omega.{arith}
 use native.Mathlib.Numerals.{add-one}
-use lib.Arith.{digits-div, digits-mod, mod-mul}
-use lib.Pow.{pow-pos, mod-mod-pow}
+use lib.Arith.{digits-div}
+use lib.Pow.{mod-mod-pow}
 use lib.ListN.{length}
 use lib.Bits.{bitXor, xor-comm}
 use Rattle.numbers.specs.Bytes.{at, tabulate}
@@ -17,7 +16,7 @@ use Rattle.algebra.specs.Coefficients.{xorInside}
 use Rattle.algebra.specs.Transform.{functionAt}
 use Rattle.algebra.specs.inner.Steps.{joined, stepped, SteppedTo}
 use Rattle.numbers.proofs.Xor.{low-lt}
-use Rattle.numbers.proofs.Bits.{bit-zero, bit-suc}
+use Rattle.numbers.proofs.Bits.{div-digits, mod-digits, bit-zero, bit-suc, bit-le}
 use Rattle.algebra.proofs.Inside.{inside-none, inside-even, inside-odd, inside-ext, inside-xor, evens, odds}
 use Rattle.numbers.proofs.Bytes.{is-table}
 
@@ -34,13 +33,6 @@ unfolding joined
 joined-other zero a x y e h = refl
 joined-other (suc zero) a x y e h = ap (bitXor a) (e refl)
 joined-other (suc (suc d)) a x y e h = absurd (omega arith)
-
-bit-le : (s q : ℕ) → bit s q ≡ 1 → 2 ^ s ≤ q
-bit-le s q e = go (decLe (2 ^ s) q)
-  where
-    go : Dec (2 ^ s ≤ q) → 2 ^ s ≤ q
-    go (yes l) = l
-    go (no l) = let h : q < 2 ^ s = omega arith in absurd (omega (arith, div-eq-of-lt h))
 
 bit-up : (s q b : ℕ) → b < 2 → bit (suc s) (q * 2 + b) ≡ bit s q
 bit-up s q b h = bit-suc s (q * 2 + b) ∙ ap (bit s) (digits-div q h)
@@ -95,18 +87,11 @@ inside-suc n base s b g h = go b h
         ∙ inside-xor n (odds whole) (evens whole) s ∙ xor-comm (xorInside n (odds whole) s) (xorInside n (evens whole) s) ∙ sym (inside-odd n whole s)
     go (suc (suc b)) l = absurd (omega arith)
 
-block-up : (n q b : ℕ) → b < 2 → (q * 2 + b) / 2 ^ suc n ≡ q / 2 ^ n
-block-up n q b h =
-    ap (λ (y : ℕ). (q * 2 + b) / y) (pow-suc 2 n ∙ mul-comm (2 ^ n) 2) ∙ sym (div-div-eq-div-mul (q * 2 + b) 2 (2 ^ n)) ∙ ap (λ (y : ℕ). y / 2 ^ n) (digits-div q h)
-
-place-up : (n q b : ℕ) → b < 2 → (q * 2 + b) % 2 ^ suc n ≡ q % 2 ^ n * 2 + b
-place-up n q b h = ap (λ (x : ℕ). (q * 2 + b) % x) (pow-suc 2 n) ∙ mod-mul (q * 2 + b) (pow-pos n) (omega arith) ∙ rw (digits-div q h, digits-mod q h)
-
 steps-inside-digits : (n : ℕ) (g : ℕ → ℕ) (q b : ℕ) → b < 2
     → ((f : ℕ → ℕ) → steps n f q ≡ xorInside n (λ x. f (q / 2 ^ n * 2 ^ n + x)) (q % 2 ^ n))
     → steps (suc n) g (q * 2 + b) ≡ xorInside (suc n) (λ x. g ((q * 2 + b) / 2 ^ suc n * 2 ^ suc n + x)) ((q * 2 + b) % 2 ^ suc n)
 steps-inside-digits n g q b h ih =
-    steps-up n g q b h ∙ ih (lowest-step g b) ∙ rw (block-up n q b h, place-up n q b h) (inside-suc n (q / 2 ^ n) (q % 2 ^ n) b g h)
+    steps-up n g q b h ∙ ih (lowest-step g b) ∙ rw (div-digits n q b h, mod-digits n q b h) (inside-suc n (q / 2 ^ n) (q % 2 ^ n) b g h)
 
 pub steps-inside : (n : ℕ) (g : ℕ → ℕ) (t : ℕ) → steps n g t ≡ xorInside n (λ q. g (t / 2 ^ n * 2 ^ n + q)) (t % 2 ^ n)
 unfolding steps

@@ -9,11 +9,11 @@ use native.Mathlib.Omega.{arith}
 use lib.Pow.{high}
 use lib.ListN.{length, set, length-set}
 use lib.Bits.{bitXor}
+use lib.Seq.{getD-set-same, getD-set-other}
 use Rattle.numbers.specs.Bytes.{at}
 use Rattle.numbers.specs.Bits.{bit}
 use Rattle.algebra.specs.inner.Steps.{joined, stepped, RunsJoined, SteppedTo}
 use Rattle.numbers.proofs.Shifts.{one-shifted}
-use Rattle.numbers.proofs.Bytes.{at-set, at-set-other}
 
 -- ---- runs
 
@@ -25,9 +25,9 @@ pub runs-more : (base size q : ℕ) (before after : List ℕ) → q < size → b
 runs-more base size q before after l h f =
     record {
       long = length-set after u v ∙ f .long;
-      below = λ t k. at-set-other after u v t (omega arith) ∙ f .below t k;
+      below = λ t k. getD-set-other after u t v 0 (omega arith) ∙ f .below t k;
       upper = λ t k k′. go t k k′ (ℕ-discrete t u);
-      above = λ t k. at-set-other after u v t (omega arith) ∙ f .above t (omega arith);
+      above = λ t k. getD-set-other after u t v 0 (omega arith) ∙ f .above t (omega arith);
     }
   where
     u : ℕ
@@ -39,8 +39,8 @@ runs-more base size q before after l h f =
     go : (t : ℕ) → base + size ≤ t → t < base + size + (q + 1) → Dec (t ≡ u) → at (set after u v) t ≡ bitXor (at before t) (at before (t - size))
     go t k k′ (yes e) =
         let d : u - size ≡ base + q = omega arith in
-        rw (e, d) (at-set after u v (omega (arith, f .long)) ∙ ap₂ bitXor (f .above u (omega arith)) (f .below (base + q) (omega arith)))
-    go t k k′ (no n) = at-set-other after u v t n ∙ f .upper t k (omega arith)
+        rw (e, d) (getD-set-same after u v 0 (omega (arith, f .long)) ∙ ap₂ bitXor (f .above u (omega arith)) (f .below (base + q) (omega arith)))
+    go t k k′ (no n) = getD-set-other after u t v 0 n ∙ f .upper t k (omega arith)
 
 -- ---- one step, run by run
 

@@ -1,6 +1,6 @@
 -- The test on all bytes by one bound on their OR, as `within_outputs` makes it, and what it says of each byte.
-use mathlib.Core.Path.{_≡_, refl, sym, ap, _∙_}
-use mathlib.Core.Bool.{Bool, true, false, _&&_}
+use mathlib.Core.Path.{_≡_, sym, ap, _∙_}
+use mathlib.Core.Bool.{Bool, _&&_, and-assoc, and-true}
 use mathlib.Core.List.{List, [], _∷_}
 use Prim.Native.Nat.{ℕ, zero, suc, _+_, _^_, _≤_, _<_}
 use native.Mathlib.Numerals.{add-one}
@@ -26,14 +26,6 @@ or-below m a b =
     let h = ltb→lt (bitOr a b) (2 ^ m) t in
     and-intro (ltb a (2 ^ m)) (ltb b (2 ^ m)) (lt→ltb a (2 ^ m) (omega (arith, or-le a b .0))) (lt→ltb b (2 ^ m) (omega (arith, or-le a b .1))))
     (λ t. lt→ltb (bitOr a b) (2 ^ m) (or-lt m a b (ltb→lt a (2 ^ m) (and-left (ltb a (2 ^ m)) (ltb b (2 ^ m)) t)) (ltb→lt b (2 ^ m) (and-right (ltb a (2 ^ m)) (ltb b (2 ^ m)) t))))
-
-and-assoc : (a b c : Bool) → ((a && b) && c) ≡ (a && (b && c))
-and-assoc true b c = refl
-and-assoc false b c = refl
-
-and-true : (a : Bool) → (a && true) ≡ a
-and-true true = refl
-and-true false = refl
 
 -- the OR of the first q bytes, and the bytes after them, tell what all the bytes tell
 abbrev pub Seen : ℕ → List ℕ → ℕ → ℕ → Type 0

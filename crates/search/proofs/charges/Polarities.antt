@@ -13,7 +13,7 @@ use Rattle.numbers.specs.Bytes.{at, tabulate}
 use Rattle.numbers.proofs.Bytes.{at-tabulate}
 use Rattle.numbers.proofs.Shifts.{one-shifted}
 use Rattle.expansions.specs.Answers.{leastPolarity}
-use Rattle.expansions.specs.Charges.{byteCharge}
+use Rattle.expansions.specs.inner.Charges.{byteCharge}
 use Rattle.expansions.specs.Costs.{weight}
 use Rattle.expansions.specs.Least.{firstLeast}
 use Rattle.expansions.specs.inner.Leading.{Leading}

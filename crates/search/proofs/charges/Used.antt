@@ -15,7 +15,7 @@ use Rattle.numbers.specs.Bytes.{at, tabulate}
 use Rattle.numbers.specs.Sums.{foldBelow}
 use Rattle.numbers.proofs.Bytes.{at-tabulate, tabulate-ext}
 use Rattle.expansions.specs.BlockTable.{entry}
-use Rattle.expansions.specs.Charges.{byteCharge}
+use Rattle.expansions.specs.inner.Charges.{byteCharge}
 use Rattle.expansions.specs.Costs.{weight}
 use Rattle.search.specs.inner.Search.{usedAt, usedCharge}
 use Rattle.expansions.proofs.BlockTable.{entries-lt}

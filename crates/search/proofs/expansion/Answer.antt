@@ -6,11 +6,16 @@ use native.Mathlib.Nat.{mul-le-mul}
 use native.Mathlib.Omega.{arith}
 use lib.Pow.{pow-mono}
 use Rattle.numbers.specs.Bytes.{at, tabulate}
-use Rattle.expansions.specs.Answers.{answerPolarity, answerCoefficient}
-use Rattle.search.specs.Expansion.{answerExpansion, Answered}
+use Rattle.expansions.specs.Answers.{answerPolarity, answerCoefficient, Minimal}
+use Rattle.search.specs.Expansion.{answerExpansion}
 use Rattle.numbers.proofs.Tables.{at-whole}
 use Rattle.expansions.proofs.Costs.{products-le, literals-le}
 use Rattle.expansions.proofs.Answers.{answer-coefficient-zero, answer-polarity-zero, answer-member, answer-minimal, answer-ext, answer-coefficient-lt, answer-polarity-lt}
+use Rattle.search.specs.declared.expansion.Expansion.{Expansion}
+
+-- the record holds the answer for the table f: "the member that gives the table with fewest products, .."
+abbrev pub Answered : ℕ → ℕ → (ℕ → ℕ) → Expansion → Type 0
+Answered n k f e = Minimal n k f (e .mixed) (e .fixed) (at (e .blocks)) (at (e .coefficients)) (e .products) (e .literals)
 
 -- ---- the answer's places, in a table that holds all that are not 0
 

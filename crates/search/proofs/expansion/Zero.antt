@@ -1,16 +1,16 @@
 -- Document 01, "All zero: M = 2^k − 1, i = 0, 0 products": the answer for a table that is 0 at every point is the empty record, for every k
 -- (`answer-of-zero`), and so is what the search hands up for such a table (`searched-of-zero`). With no product the lowest member gives the
 -- table, and nothing comes before it (`zero-answer`).
-use mathlib.Core.Path.{_≡_, refl, sym, ap, _∙_, fun-ext}
+use mathlib.Core.Path.{_≡_, refl, sym, _∙_, fun-ext}
 use mathlib.Core.Bool.{Bool, true, false, cond}
-use mathlib.Core.List.{List, _∷_}
-use Prim.Native.Nat.{ℕ, zero, suc, _+_, _-_, _^_, _≤_, _<_, min}
+use mathlib.Core.List.{List}
+use Prim.Native.Nat.{ℕ, _+_, _-_, _^_, _≤_, _<_, min}
 use native.Mathlib.Decide.{decLt}
 use native.Mathlib.Nat.{add-assoc, add-comm, add-zero}
 use native.Mathlib.Omega.{arith}
-use lib.ListN.{replicate}
-use Rattle.numbers.specs.Bytes.{at, tabulate}
+use Rattle.numbers.specs.Bytes.{at}
 use Rattle.numbers.proofs.Sums.{fold-zero}
+use Rattle.numbers.proofs.Tables.{tabulate-zero}
 use Rattle.algebra.proofs.Value.{value-zero}
 use Rattle.expansions.specs.Costs.{counted, products, literals}
 use Rattle.expansions.specs.Answers.{IsAnswer, answerMixed, answerFixed, answerPolarity, answerCoefficient}
@@ -29,13 +29,6 @@ products-zero n = fold-zero _+_ add-assoc add-comm add-zero (2 ^ n)
 literals-zero : (n : ℕ) → literals n (λ t. 0) ≡ 0
 unfolding literals counted
 literals-zero n = fold-zero _+_ add-assoc add-comm add-zero (2 ^ n)
-
--- ---- every place is 0
-
-tabulate-zero : (N : ℕ) → tabulate N (λ t. 0) ≡ replicate {A = ℕ} N 0
-unfolding tabulate
-tabulate-zero zero = refl
-tabulate-zero (suc N) = ap (λ (l : List ℕ). 0 ∷ l) (tabulate-zero N)
 
 -- ---- the answer
 

@@ -3,8 +3,8 @@
 use mathlib.Core.Path.{_≡_, sym, ap, _∙_}
 use Prim.Native.Nat.{ℕ, _-_, _*_, _/_, _%_, _^_, _≤_}
 use native.Mathlib.Omega.{arith}
-use lib.Bits.{bitAnd, and-mask}
-use Rattle.numbers.proofs.Shifts.{one-shifted}
+use lib.Bits.{bitAnd}
+use Rattle.numbers.proofs.Shifts.{mask-shifted}
 use Rattle.expansions.specs.Members.{Member}
 use Rattle.expansions.specs.Costs.{products, literals}
 use Rattle.expansions.proofs.Costs.{charge, charge-products, charge-literals}
@@ -34,7 +34,7 @@ module _ (n k : ℕ) (f : ℕ → ℕ) (leader : Leader) (hn : n ≤ 8) (hk : k 
   -- as code masks the pair
   pub leader-fixed : bitAnd (leader .pair) (1 * 2 ^ n % 2 ^ 64 - 1) ≡ answerFixed n k f
   unfolding answerFixed
-  leader-fixed = rw (one-shifted n (omega arith)) (and-mask (leader .pair) n ∙ ap (λ (x : ℕ). x % 2 ^ n) leader-pair)
+  leader-fixed = mask-shifted n (leader .pair) (omega arith) ∙ ap (λ (x : ℕ). x % 2 ^ n) leader-pair
 
   -- so they are of a member
   pub leader-member : Member n k (leader .pair / 2 ^ n) (bitAnd (leader .pair) (1 * 2 ^ n % 2 ^ 64 - 1)) (answerPolarity n k f)

@@ -1,7 +1,7 @@
 -- The leader of the pairs tried so far: one more pair that is no pair, that costs less, or that does not; and a run of numbers that are
 -- no pairs.
 use mathlib.Core.Path.{_≡_, refl, sym, ap₂, _∙_}
-use mathlib.Core.Bool.{Bool, true, false, _&&_}
+use mathlib.Core.Bool.{true, false, _&&_, and-false}
 use Prim.Native.Nat.{ℕ, zero, suc, _+_, _*_, _%_, _^_, _≤_, _<_}
 use native.Mathlib.Nat.{add-zero, add-suc, suc-mul, lt-of-lt-of-le, mul-le-mul}
 use native.Mathlib.Omega.{arith}
@@ -36,10 +36,6 @@ skip n k M i f l v b = rw (add-suc (M * 2 ^ n) i) (leading-skip 4294967295 (pair
 -- i has a bit of M
 pub leads-skip : (n k M i : ℕ) (f : ℕ → ℕ) (l : Leader) → i < 2 ^ n → (bitAnd i M ≡ 0 → ⊥) → Leads n k f (M * 2 ^ n + i) l → Leads n k f (M * 2 ^ n + suc i) l
 leads-skip n k M i f l h z b = skip n k M i f l (pair-valid n k M i h ∙ rw (ne-eqb (bitAnd i M) 0 z) (and-false (eqb (onesIn n M) k))) b
-  where
-    and-false : (a : Bool) → (a && false) ≡ false
-    and-false true = refl
-    and-false false = refl
 
 -- M and i are a pair, of the charge c
 module _ (n k M i c : ℕ) (f : ℕ → ℕ) (l : Leader) (h : i < 2 ^ n) (size : onesIn n M ≡ k) (clear : bitAnd i M ≡ 0)

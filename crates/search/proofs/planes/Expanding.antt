@@ -16,7 +16,7 @@ use Rattle.algebra.specs.Transform.{functionAt, fits, coefficientBytes}
 use Rattle.numbers.proofs.Bytes.{length-tabulate, at-tabulate}
 use Rattle.algebra.proofs.Coefficients.{coefficient-ext}
 use Rattle.expansions.specs.Split.{gather, outside, join}
-use Rattle.expansions.specs.BlockTable.{plane}
+use Rattle.expansions.specs.inner.Planes.{plane}
 use Rattle.expansions.specs.Answers.{blockFunction}
 use Rattle.search.specs.inner.Search.{Limits, Tried, HoldsBlocks}
 use Rattle.expansions.proofs.Split.{ones-others, gather-lt}

@@ -6,15 +6,15 @@ use Prim.Native.Nat.{ℕ, _+_, _-_, _*_, _/_, _%_, _^_, _≤_, _<_}
 use native.Mathlib.Nat.{div-lt-iff-lt-mul, mod-lt, mul-le-mul-right}
 use native.Mathlib.Omega.{arith}
 use lib.Arith.{digits-lt, digits-div, digits-mod}
-use lib.Bits.{bitAnd, and-mask}
+use lib.Bits.{bitAnd}
 use lib.ListN.{length}
 use lib.Pow.{pow-pos}
 use Rattle.numbers.specs.Bytes.{at, tabulate}
 use Rattle.numbers.specs.Bits.{bit, pack}
 use Rattle.numbers.proofs.Bytes.{length-tabulate, at-tabulate}
-use Rattle.numbers.proofs.Shifts.{one-shifted}
+use Rattle.numbers.proofs.Shifts.{one-shifted, mask-shifted}
 use Rattle.expansions.specs.Split.{join}
-use Rattle.expansions.specs.BlockTable.{plane}
+use Rattle.expansions.specs.inner.Planes.{plane}
 use Rattle.search.specs.inner.Search.{placeByte, planeByte, planesOf}
 use Rattle.expansions.proofs.Split.{join-lt}
 use Rattle.numbers.proofs.Pack.{pack-ext}
@@ -36,10 +36,6 @@ places-long places N r g e h = rw e (length-tabulate N g ∙ h)
 
 -- ---- planes
 
--- x & (2 ^ r - 1), as code computes it
-pub block-mask : (r x : ℕ) → r ≤ 8 → bitAnd x (1 * 2 ^ r % 2 ^ 64 - 1) ≡ x % 2 ^ r
-block-mask r x h = rw (one-shifted r (omega arith)) (and-mask x r)
-
 -- a block's eight places stand within those of 2 ^ r blocks
 pub block-room : (r x : ℕ) → x % 2 ^ r * 8 + 8 ≤ 8 * 2 ^ r
 block-room r x = omega (arith, mod-lt x (pow-pos r))
@@ -56,7 +52,7 @@ planes-room r m len h e = rw e (mul-le-mul-right (2 ^ r) h)
 pub plane-read : (r x y : ℕ) (f : ℕ → ℕ) → r ≤ 8 → y ≡ pack 8 (λ p. bit (x / 2 ^ r) (f (bitAnd x (1 * 2 ^ r % 2 ^ 64 - 1) * 8 + p)))
     → y ≡ planeByte r f x
 unfolding planeByte
-plane-read r x y f h e = e ∙ ap (λ (q : ℕ). pack 8 (λ p. bit (x / 2 ^ r) (f (q * 8 + p)))) (block-mask r x h)
+plane-read r x y f h e = e ∙ ap (λ (q : ℕ). pack 8 (λ p. bit (x / 2 ^ r) (f (q * 8 + p)))) (mask-shifted r x (omega arith))
 
 -- the planes, by way of the places
 pub planes-laid : (n m k M : ℕ) (table places planes : List ℕ) (N N′ : ℕ) → N ≡ 8 * 2 ^ (n - k) → N′ ≡ m * 2 ^ (n - k)

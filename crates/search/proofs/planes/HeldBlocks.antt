@@ -12,10 +12,10 @@ use Rattle.numbers.specs.Bytes.{at}
 use Rattle.algebra.specs.Coefficients.{coefficient}
 use Rattle.numbers.proofs.Sums.{fold-ext}
 use Rattle.expansions.specs.Answers.{blockFunction, blockCharge, leastPolarity, pairCharge}
-use Rattle.expansions.specs.BlockTable.{entry, used}
+use Rattle.expansions.specs.BlockTable.{entry}
+use Rattle.expansions.proofs.BlockTable.{used, blockCharge-byte}
 use Rattle.expansions.specs.Costs.{weight}
 use Rattle.search.specs.inner.Search.{Limits, HoldsBlocks, usedAt, usedCharge}
-use Rattle.expansions.proofs.BlockTable.{blockCharge-byte}
 use Rattle.expansions.proofs.Costs.{sum-le}
 use Rattle.expansions.proofs.Counted.{counted-le, weight-le}
 use Rattle.expansions.proofs.Minimal.{leastPolarity-ext, pairCharge-ext, pairCharge-le}

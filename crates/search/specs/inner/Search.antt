@@ -14,8 +14,9 @@ use Rattle.numbers.specs.Bits.{bit, pack}
 use Rattle.numbers.specs.Tests.{only}
 use Rattle.expansions.specs.Split.{join}
 use Rattle.expansions.specs.Members.{block, place}
-use Rattle.expansions.specs.BlockTable.{entry, plane}
-use Rattle.expansions.specs.Charges.{byteCharge}
+use Rattle.expansions.specs.BlockTable.{entry}
+use Rattle.expansions.specs.inner.Planes.{plane}
+use Rattle.expansions.specs.inner.Charges.{byteCharge}
 use Rattle.expansions.specs.Least.{firstLeast}
 use Rattle.expansions.specs.inner.Leading.{Leading}
 use Rattle.expansions.specs.Answers.{blockFunction, blockCharge, leastPolarity, pairCharge, validPair}

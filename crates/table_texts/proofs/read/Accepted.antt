@@ -1,13 +1,13 @@
 -- What an accepted text gives: sizes within document 01's limits, and a table of 256 bytes, each below 2 ^ m, zero from 2 ^ n on.
 -- The main property is `reading-accepted`.
 use mathlib.Core.Bool.{Bool, true, false, cond, _&&_}
-use mathlib.Core.List.{List, [], _∷_}
+use mathlib.Core.List.{List, [], _∷_, _++_}
 use mathlib.Core.Path.{_≡_, refl, subst, _∙_}
 use Prim.Native.Nat.{ℕ, zero, suc, _+_, _^_, _<_}
 use native.Mathlib.Omega.{arith}
 use borrow.Author.Tests.{ltb-true, ltb-false, eqb-true, eqb-false}
 use lib.Dec.{eqb, leb, ltb}
-use lib.ListN.{length, getD, set, replicate, length-set, length-replicate, getD-replicate, List·getD-eq-default}
+use lib.ListN.{length, getD, set, replicate, length-set, length-replicate}
 use lib.Pow.{pow-pos}
 use Rattle.numbers.specs.Refusals.{sizesRefusal, Sized}
 use Rattle.numbers.proofs.refusals.Judging.{sizes-none}
@@ -27,6 +27,8 @@ use Rattle.table_texts.specs.Lines.{headed, onLine, firstLine, laterLine
 use Rattle.table_texts.specs.Accepted.{Table, Accepted}
 use Rattle.table_texts.specs.Read.{Reading, given, refused, unfinished, ended, judgedLater, laterLines, sizesJudged, judgedFirst, opened, allLines, reading, lent, standsFor, ReadTable}
 use Rattle.table_texts.proofs.Numbers.{outputs-lt}
+use Rattle.listings.proofs.Parts.{separated}
+use Rattle.numbers.proofs.Tables.{getD-zeros}
 use Rattle.numbers.proofs.Tests.{both-left}
 
 -- ---- an `on` line
@@ -37,26 +39,20 @@ wrong-on e = let z : _≡_ {A = ℕ} 0 1 = cc in omega arith
 pub end-on : {p o : ℕ} → End ≡ On p o → ⊥
 end-on e = let z : _≡_ {A = ℕ} 0 1 = cc in omega arith
 
-on-outputs : (x y : Number) (p o : ℕ) → onLine x y ≡ On p o → y ≡ number.Is o
-on-outputs (number.Is a) (number.Is b) p o e = cc
-on-outputs (number.Is a) number.Wrong p o e = absurd (wrong-on e)
-on-outputs number.Wrong y p o e = absurd (wrong-on e)
+pub on-read : (x y : Number) (p o : ℕ) → onLine x y ≡ On p o → (x ≡ number.Is p) × (y ≡ number.Is o)
+on-read (number.Is a) (number.Is b) p o e = (cc, cc)
+on-read (number.Is a) number.Wrong p o e = absurd (wrong-on e)
+on-read number.Wrong y p o e = absurd (wrong-on e)
 
 pub row-lt : (m : ℕ) (l : List ℕ) (p o : ℕ) → laterLine m l ≡ On p o → o < 2 ^ m
 unfolding laterLine
 row-lt m l p o e = go (same l (bytes "end")) (headed 3 (bytes "on") l) e where
   go : (s t : Bool) → cond s End (cond t (onLine (point (field 1 l)) (outputs m (field 2 l))) Wrong) ≡ On p o → o < 2 ^ m
   go true t g = absurd (end-on g)
-  go false true g = outputs-lt m (field 2 l) o (on-outputs (point (field 1 l)) (outputs m (field 2 l)) p o g)
+  go false true g = outputs-lt m (field 2 l) o (on-read (point (field 1 l)) (outputs m (field 2 l)) p o g .1)
   go false false g = absurd (wrong-on g)
 
 -- ---- the table as rows are put into it
-
-pub getD-zeros : (k p : ℕ) → getD {A = ℕ} (replicate k 0) p 0 ≡ 0
-getD-zeros k p = go (ltb p k) refl where
-  go : (t : Bool) → ltb p k ≡ t → getD {A = ℕ} (replicate k 0) p 0 ≡ 0
-  go true e = getD-replicate k p 0 0 (ltb-true p k e)
-  go false e = List·getD-eq-default (replicate {A = ℕ} k 0) 0 (rw length-replicate (ltb-false p k e))
 
 table-zeros : (z : Sizes) → Table z (replicate 256 0)
 table-zeros z =
@@ -92,11 +88,17 @@ unfolding unfinished
 unfinished-refused [] line z t e = no-refusal e
 unfinished-refused (b ∷ l) line z t e = no-refusal e
 
-ended-given : (z y : Sizes) (line : ℕ) (t u l : List ℕ) (ls : List (List ℕ)) → ended z line t l ls ≡ given y u → (z ≡ y) × (t ≡ u)
-unfolding ended
-ended-given z y line t u [] [] e = (cc, cc)
-ended-given z y line t u [] (l ∷ ls) e = absurd (no-refusal e)
-ended-given z y line t u (b ∷ l) ls e = absurd (no-refusal e)
+-- no byte stands after the `end` line
+pub record Ended (z y : Sizes) (t u l : List ℕ) (ls : List (List ℕ)) : Type 0 where
+  pub sizes : z ≡ y
+  pub table : t ≡ u
+  pub none : l ++ separated 10 ls ≡ []
+
+pub ended-read : (z y : Sizes) (line : ℕ) (t u l : List ℕ) (ls : List (List ℕ)) → ended z line t l ls ≡ given y u → Ended z y t u l ls
+unfolding ended separated
+ended-read z y line t u [] [] e = record { sizes = cc; table = cc; none = refl }
+ended-read z y line t u [] (l ∷ ls) e = absurd (no-refusal e)
+ended-read z y line t u (b ∷ l) ls e = absurd (no-refusal e)
 
 pub lines-table : (ls : List (List ℕ)) (z y : Sizes) (line least : ℕ) (t u l : List ℕ) → Table z t
     → laterLines z line least t l ls ≡ given y u → (z ≡ y) × Table z u
@@ -117,8 +119,8 @@ lines-table (l′ ∷ ls) z y line least t u l g e =
         → (z ≡ y) × Table z u
     judged (On p o) says ih f = tested p o (ltb p (2 ^ z .n) && leb least p) refl (row-lt (z .m) l p o says) (ih p o) f
     judged End says ih f =
-        let same = ended-given z y line t u l′ ls f in
-        (same .0, rw (← same .1) g)
+        let done = ended-read z y line t u l′ ls f in
+        (done .sizes, rw (← done .table) g)
     judged Wrong says ih f = absurd (no-refusal f)
 
 -- ---- the first line, and the text

@@ -11,7 +11,8 @@ use lib.ListN.{length, getD, take, drop, set, replicate}
 use Rattle.table_texts.specs.declared.cursor.Cursor.{Cursor}
 use Rattle.table_texts.specs.declared.lines.LaterLine.the-variants.{On, End, Wrong}
 use Rattle.table_texts.specs.declared.sizes.Sizes.{Sizes}
-use Rattle.listings.specs.Parts.{withByte, parts, stop}
+use Rattle.listings.specs.Parts.{withByte, parts}
+use Rattle.listings.specs.inner.Stops.{stop}
 use Rattle.table_texts.specs.Lines.{firstLine, laterLine}
 use Rattle.table_texts.specs.Read.{Reading, given, refused, unfinished, ended, judgedLater, laterLines, judgedFirst, opened, allLines, reading}
 use Rattle.table_texts.specs.inner.Steps.{linesAt}

@@ -23,7 +23,7 @@ use Rattle.text.specs.declared.compile.Compiled.{Compiled}
 use Rattle.text.specs.declared.compile.Compiled.the-variants.{Written, Refused}
 use Rattle.table_texts.specs.Accepted.{Accepted}
 use Rattle.table_texts.specs.Read.{given}
-use Rattle.listings.specs.Listing.{Listable}
+use Rattle.listings.specs.inner.Listable.{Listable}
 use Rattle.text.specs.inner.Write.{WriteListing}
 use Rattle.text.specs.Compile.{answerListing, compiled, bufferAfter}
 use Rattle.listings.proofs.ListedAnswers.{answer-listable}

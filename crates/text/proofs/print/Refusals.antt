@@ -5,7 +5,7 @@ use mathlib.Core.List.{List, [], _∷_, _++_, map, append-assoc, append-nil}
 use mathlib.Core.Path.{_≡_, sym, ap, _∙_}
 use Prim.Native.Nat.{ℕ, zero, suc, _+_, _^_, _<_, _≤_}
 use native.Mathlib.Omega.{arith}
-use lib.Dec.{eqb, leb, ltb, lit<}
+use lib.Dec.{leb, ltb, lit<}
 use lib.ListN.{length, set, replicate, length-append, length-take}
 use Rattle.table_texts.specs.declared.lines.FirstLine.the-variants as first
 use Rattle.table_texts.specs.declared.lines.FirstLine.{FirstLine}
@@ -13,7 +13,7 @@ use Rattle.table_texts.specs.declared.lines.LaterLine.the-variants.{On, End, Wr
 use Rattle.table_texts.specs.declared.lines.LaterLine.{LaterLine}
 use Rattle.table_texts.specs.declared.read.ReadAnswer.the-variants as answer
 use Rattle.table_texts.specs.declared.sizes.Sizes.{Sizes}
-use Rattle.listings.specs.Parts.{withByte, parts, bytes}
+use Rattle.listings.specs.Parts.{parts, bytes}
 use Rattle.table_texts.specs.Lines.{firstLine, laterLine}
 use Rattle.listings.specs.Listing.{tabbed, line, decimal}
 use Rattle.listings.specs.Meaning.{firstNumbers}
@@ -21,6 +21,7 @@ use Rattle.table_texts.specs.Read.{Reading, given, refused, unfinished, ended, 
 use Rattle.numbers.specs.Refusals.{sizesRefusal}
 use Rattle.numbers.proofs.refusals.Judging.{sizes-most}
 use Rattle.text.specs.Print.{judged, refusedLine}
+use Rattle.listings.proofs.Parts.{others-le}
 use Rattle.listings.proofs.Joined.{Plain, parts-fields, parts-lines}
 use Rattle.listings.proofs.Characters.{length-decimal, digitCount-in}
 use Rattle.listings.proofs.Lengths.{digitsOf-le, length-numbers}
@@ -82,14 +83,6 @@ allLines-in l [] = unfinished-in l 1
 allLines-in l (l′ ∷ ls) =
     opened-in (firstLine l) _ (suc (length ls) + 1) (omega arith)
     (λ z. refused-widen 2 (2 + length ls) 2 (suc (length ls) + 1) (laterLines z 2 0 (replicate 256 0) l′ ls) (omega arith) (omega arith) (laterLines-in ls z 2 0 (replicate 256 0) l′))
-
-others-le : (separator : ℕ) (s : List ℕ) → length (parts separator s .others) ≤ length s
-unfolding parts
-others-le separator [] = omega arith
-others-le separator (b ∷ s) = go (eqb b separator) (others-le separator s) where
-  go : (t : Bool) → length (parts separator s .others) ≤ length s → length (withByte t b (parts separator s) .others) ≤ suc (length s)
-  go true h = omega arith
-  go false h = omega arith
 
 reading-in : (s : List ℕ) → RefusedIn 1 (length s + 1) (reading s)
 unfolding reading

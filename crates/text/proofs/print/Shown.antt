@@ -7,10 +7,11 @@ use Prim.Native.Nat.{ℕ, _+_, _-_, _≤_}
 use native.Mathlib.Omega.{arith}
 use borrow.Author.Tests.{le-leb}
 use lib.Dec.{leb}
-use lib.ListN.{length, take, drop, replicate, length-append, length-replicate, replicate-append-replicate}
-use lib.Seq.{take-append-seam, drop-at}
+use lib.ListN.{length, take, drop, replicate, length-append, length-replicate}
+use lib.Seq.{take-append-seam}
 use Rattle.numbers.specs.Bytes.{at}
 use Rattle.search.specs.Expansion.{answerExpansion}
+use Rattle.numbers.proofs.Tables.{drop-zeros}
 use Rattle.search.proofs.expansion.Answer.{answerExpansion-is}
 use Rattle.table_texts.specs.declared.sizes.Sizes.{Sizes}
 use Rattle.text.specs.declared.compile.Compiled.{Compiled}
@@ -23,6 +24,7 @@ use Rattle.text.specs.Compile.{answerListing, compiled, bufferAfter, Com
 use Rattle.text.specs.Print.{judged, refusedLine, printedFor, printed, Print}
 use Rattle.table_texts.proofs.read.Accepted.{reading-accepted}
 use Rattle.listings.proofs.Longest.{listing-longest}
+use Rattle.table_texts.proofs.Length.{accepted-text-first}
 use Rattle.text.proofs.writer.Puts.{put-front}
 use Rattle.text.proofs.compile.Listings.{answer-listing}
 use Rattle.text.proofs.print.Refusals.{refusal-said, refused-line-le}
@@ -51,12 +53,6 @@ zeros-long : length zeros ≡ 5916
 unfolding zeros
 zeros-long = length-replicate {A = ℕ} 5916 0
 
-drop-zeros : (k n : ℕ) → k ≤ n → drop k (replicate {A = ℕ} n 0) ≡ replicate (n - k) 0
-drop-zeros k n h =
-    let whole : k + (n - k) ≡ n = omega arith in
-    let parted = replicate-append-replicate {A = ℕ} k (n - k) 0 ∙ ap (λ (x : ℕ). replicate {A = ℕ} x 0) whole in
-    ap (drop k) (sym parted) ∙ drop-at (replicate k 0) (replicate (n - k) 0) k (length-replicate {A = ℕ} k 0)
-
 print-holds : (input held : List ℕ) (count : ℕ) → count ≡ length (printed input)
     → held ≡ printed input ++ drop (length (printed input)) zeros → Print input held count
 unfolding printed printedFor zeros
@@ -72,6 +68,7 @@ print-holds input held count ec eh =
       meaning = λ z table e.
           subst (IsListing (z .n) (z .k) (at table)) (sym (shown ∙ ap printedFor e)) (answer-listing z table (reading-accepted (judged input) z table e));
       refusal = λ number l e. ap firstNumbers (shown ∙ ap printedFor e) ∙ refusal-said input number l e;
+      whole = λ z table e. shown ∙ ap (λ (x : List ℕ). printedFor (reading x)) (accepted-text-first input z table e) ∙ ap printedFor e;
     }
 
 -- ---- by the text call's answer

@@ -10,7 +10,7 @@ use native.Mathlib.Omega.{arith}
 use Rattle.algebra.proofs.transform.coefficients_into.Statement.{statement}
 use Rattle.algebra.proofs.transform.coefficients_into.Tie as tie
 
-fitting : (c : tie.Then1) → Fitting (c .before .before .before .before .args .n) (c .before .before .before .before .args .w) (length (c .before .before .before .before .args .tables .now)) (length (c .before .before .before .before .args .coefficients .now))
+fitting : (c : tie.Then1) → let a = c .before .before .before .before .args in Fitting (a .n) (a .w) (length (a .tables .now)) (length (a .coefficients .now))
 fitting c = fits-true _ _ _ _ (sym (c .before .lengths-fit .ensures) ∙ c .if1 .taken)
 
 lengths-fit-requires : tie.Need-lengths-fit-requires
@@ -31,7 +31,8 @@ same-length c = search needs
 returns : tie.Need-returns
 returns c =
     let t = c .before .before .before .before .before .before .before .before in
-    coefficients-filled _ _ _ _ _ _ (sym (t .before .lengths-fit .ensures) ∙ t .if1 .taken) (c .before .before .before .before .before .before .move-points .ensures) (c .before .before .join-inside .ensures)
+    let fits = sym (t .before .lengths-fit .ensures) ∙ t .if1 .taken in
+    coefficients-filled _ _ _ _ _ _ fits (c .before .before .before .before .before .before .move-points .ensures) (c .before .before .join-inside .ensures)
 
 returns-2 : tie.Need-returns-2
 unfolding coefficientBytes

@@ -34,7 +34,8 @@ move-points-requires : tie.Need-move-points-requires
 move-points-requires c κs = λ q h.
     let s = c .before .before .before .before .before .before .before .before in
     let size-le : 2 ^ s .args .n ≤ 256 = pow-mono (s .pre .0) in
-    omega (arith, xor-lt (s .args .n) q (s .args .w) (omega (arith, s .pre .2)) (s .pre .1), ap length (c .before .before .before .join-inside .ensures) ∙ length-tabulate _ _ ∙ long (c .before .before .before .before .before))
+    let whole = ap length (c .before .before .before .join-inside .ensures) ∙ length-tabulate _ _ ∙ long (c .before .before .before .before .before) in
+    omega (arith, xor-lt (s .args .n) q (s .args .w) (omega (arith, s .pre .2)) (s .pre .1), whole)
 
 same-length : tie.Need-same-length
 same-length c = search needs

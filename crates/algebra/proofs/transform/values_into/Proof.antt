@@ -11,7 +11,7 @@ use native.Mathlib.Omega.{arith}
 use Rattle.algebra.proofs.transform.values_into.Statement.{statement}
 use Rattle.algebra.proofs.transform.values_into.Tie as tie
 
-fitting : (c : tie.Then1) → Fitting (c .before .before .before .before .args .n) (c .before .before .before .before .args .w) (length (c .before .before .before .before .args .coefficients .now)) (length (c .before .before .before .before .args .table .now))
+fitting : (c : tie.Then1) → let a = c .before .before .before .before .args in Fitting (a .n) (a .w) (length (a .coefficients .now)) (length (a .table .now))
 fitting c = fits-true _ _ _ _ (sym (c .before .lengths-fit .ensures) ∙ c .if1 .taken)
 
 size : (c : tie.Then1) → 1 * 2 ^ c .before .before .before .before .args .n % 2 ^ 64 ≡ 2 ^ c .before .before .before .before .args .n

@@ -1,7 +1,6 @@
 -- `search_allowed` meets its contract: the lent parts of the three arrays have the room that is asked.
 use borrow.Author.Needs.{needs}
-use mathlib.Core.Path.{sym, _∙_}
-use Rattle.search.proofs.answer.Room.{room-le, room-shifted, room-lent}
+use Rattle.search.proofs.answer.Room.{room-fits, room-counted, room-lent}
 use native.Mathlib.Omega.{arith}
 use Rattle.search.proofs.answer.search_allowed.Statement.{statement}
 use Rattle.search.proofs.answer.search_allowed.Tie as tie
@@ -25,22 +24,34 @@ shl-used : tie.Need-shl-used
 shl-used c = omega (arith, c .before .before .before .pre .0 .inputs)
 
 array-borrow-prefix-places : tie.Need-array-borrow-prefix-places
-array-borrow-prefix-places c = omega (arith, room-le 8 (c .before .before .before .before .before .args .n) (c .before .before .before .before .before .args .k) (omega arith) (c .before .before .before .before .before .pre .0 .inputs), room-shifted 8 (c .before .before .before .before .before .args .n) (c .before .before .before .before .before .args .k) (omega arith) (c .before .before .before .before .before .pre .0 .inputs))
+array-borrow-prefix-places c =
+    let s = c .before .before .before .before .before in
+    room-fits 8 (s .args .n) (s .args .k) (omega arith) (s .pre .0 .inputs)
 
 slice-aggregate-search-within : tie.Need-slice-aggregate-search-within
-slice-aggregate-search-within c = room-shifted 8 (c .before .before .before .before .before .before .args .n) (c .before .before .before .before .before .before .args .k) (omega arith) (c .before .before .before .before .before .before .pre .0 .inputs) ∙ sym (room-lent 8 (c .before .before .before .before .before .before .args .n) (c .before .before .before .before .before .before .args .k) (omega arith) (c .before .before .before .before .before .before .pre .0 .inputs))
+slice-aggregate-search-within c =
+    let s = c .before .before .before .before .before .before in
+    room-counted 8 (s .args .n) (s .args .k) (omega arith) (s .pre .0 .inputs)
 
 array-borrow-prefix-planes : tie.Need-array-borrow-prefix-planes
-array-borrow-prefix-planes c = omega (arith, room-le (c .before .before .before .before .before .before .args .m) (c .before .before .before .before .before .before .args .n) (c .before .before .before .before .before .before .args .k) (c .before .before .before .before .before .before .pre .0 .outputs) (c .before .before .before .before .before .before .pre .0 .inputs), room-shifted (c .before .before .before .before .before .before .args .m) (c .before .before .before .before .before .before .args .n) (c .before .before .before .before .before .before .args .k) (c .before .before .before .before .before .before .pre .0 .outputs) (c .before .before .before .before .before .before .pre .0 .inputs))
+array-borrow-prefix-planes c =
+    let s = c .before .before .before .before .before .before in
+    room-fits (s .args .m) (s .args .n) (s .args .k) (s .pre .0 .outputs) (s .pre .0 .inputs)
 
 slice-aggregate-search-within-2 : tie.Need-slice-aggregate-search-within-2
-slice-aggregate-search-within-2 c = room-shifted (c .before .before .before .before .before .before .before .args .m) (c .before .before .before .before .before .before .before .args .n) (c .before .before .before .before .before .before .before .args .k) (c .before .before .before .before .before .before .before .pre .0 .outputs) (c .before .before .before .before .before .before .before .pre .0 .inputs) ∙ sym (room-lent (c .before .before .before .before .before .before .before .args .m) (c .before .before .before .before .before .before .before .args .n) (c .before .before .before .before .before .before .before .args .k) (c .before .before .before .before .before .before .before .pre .0 .outputs) (c .before .before .before .before .before .before .before .pre .0 .inputs))
+slice-aggregate-search-within-2 c =
+    let s = c .before .before .before .before .before .before .before in
+    room-counted (s .args .m) (s .args .n) (s .args .k) (s .pre .0 .outputs) (s .pre .0 .inputs)
 
 array-borrow-prefix-functions : tie.Need-array-borrow-prefix-functions
-array-borrow-prefix-functions c = omega (arith, room-le (c .before .before .before .before .before .before .before .args .m) (c .before .before .before .before .before .before .before .args .n) (c .before .before .before .before .before .before .before .args .k) (c .before .before .before .before .before .before .before .pre .0 .outputs) (c .before .before .before .before .before .before .before .pre .0 .inputs), room-shifted (c .before .before .before .before .before .before .before .args .m) (c .before .before .before .before .before .before .before .args .n) (c .before .before .before .before .before .before .before .args .k) (c .before .before .before .before .before .before .before .pre .0 .outputs) (c .before .before .before .before .before .before .before .pre .0 .inputs))
+array-borrow-prefix-functions c =
+    let s = c .before .before .before .before .before .before .before in
+    room-fits (s .args .m) (s .args .n) (s .args .k) (s .pre .0 .outputs) (s .pre .0 .inputs)
 
 slice-aggregate-search-within-3 : tie.Need-slice-aggregate-search-within-3
-slice-aggregate-search-within-3 c = room-shifted (c .before .before .before .before .before .before .before .before .args .m) (c .before .before .before .before .before .before .before .before .args .n) (c .before .before .before .before .before .before .before .before .args .k) (c .before .before .before .before .before .before .before .before .pre .0 .outputs) (c .before .before .before .before .before .before .before .before .pre .0 .inputs) ∙ sym (room-lent (c .before .before .before .before .before .before .before .before .args .m) (c .before .before .before .before .before .before .before .before .args .n) (c .before .before .before .before .before .before .before .before .args .k) (c .before .before .before .before .before .before .before .before .pre .0 .outputs) (c .before .before .before .before .before .before .before .before .pre .0 .inputs))
+slice-aggregate-search-within-3 c =
+    let s = c .before .before .before .before .before .before .before .before in
+    room-counted (s .args .m) (s .args .n) (s .args .k) (s .pre .0 .outputs) (s .pre .0 .inputs)
 
 search-within-requires : tie.Need-search-within-requires
 search-within-requires c κs =

@@ -7,7 +7,7 @@ use borrow.Author.Needs.{needs}
 use Rattle.numbers.specs.Sums.{foldBelow, sumBelow}
 use Rattle.numbers.specs.Bits.{bit}
 use Rattle.expansions.specs.Costs.{weight}
-use Rattle.expansions.specs.Charges.{literalCounts, literalCount, byteCharge}
+use Rattle.expansions.specs.inner.Charges.{literalCounts, literalCount, byteCharge}
 use Rattle.expansions.proofs.Charges.{literalCount-le, byteCharge-term}
 use Rattle.search.proofs.charges.byte_charge.Statement.{statement}
 use Rattle.search.proofs.charges.byte_charge.Tie as tie

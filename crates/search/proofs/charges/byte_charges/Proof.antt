@@ -2,7 +2,7 @@
 use Prim.Native.Nat.{_-_}
 use native.Mathlib.Omega.{arith}
 use borrow.Author.Needs.{needs}
-use Rattle.expansions.specs.Charges.{byteCharge}
+use Rattle.expansions.specs.inner.Charges.{byteCharge}
 use Rattle.numbers.proofs.Bytes.{Filled, filled-none, filled-more, filled-all}
 use Rattle.search.proofs.charges.byte_charges.Statement.{statement}
 use Rattle.search.proofs.charges.byte_charges.Tie as tie

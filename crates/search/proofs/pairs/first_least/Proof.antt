@@ -15,7 +15,10 @@ use Rattle.search.proofs.pairs.first_least.Statement.{statement}
 use Rattle.search.proofs.pairs.first_least.Tie as tie
 
 abbrev Inv-loop : tie.InvT-loop
-Inv-loop blocks charges n m k table places₀ planes₀ functions₀ all led₀ mixed₀ places planes functions led mixed = (all ≡ 2 ^ n) × (mixed ≤ 2 ^ n) × Room n m k (length places) (length planes) (length functions) × Leads n k (at table) (mixed * 2 ^ n) led
+Inv-loop blocks charges n m k table places₀ planes₀ functions₀ all led₀ mixed₀ places planes functions led mixed =
+    (all ≡ 2 ^ n)
+    × (mixed ≤ 2 ^ n)
+    × Room n m k (length places) (length planes) (length functions) × Leads n k (at table) (mixed * 2 ^ n) led
 
 abbrev μ-loop : tie.MeasureT-loop
 μ-loop blocks charges n m k table places₀ planes₀ functions₀ all led₀ mixed₀ places planes functions led mixed = all - mixed
@@ -36,8 +39,10 @@ try-any-requires c κs =
 
 add-mixed : tie.Need-add-mixed Inv-loop μ-loop
 add-mixed c =
-    let size : 2 ^ c .before .before .before .before .before .before .before .before .before .before .before .before .before .before .before .before .args .n ≤ 256 = pow-mono (c .before .before .before .before .before .before .before .before .before .before .before .before .before .before .before .before .pre .1 .0 .inputs) in
-    omega (arith, c .before .before .before .before .before .before .before .before .before .before .loop-test .taken, c .before .before .before .before .before .before .before .before .before .before .before .loop .inv .0)
+    let s = c .before .before .before .before .before .before .before .before .before .before .before .before .before .before .before .before in
+    let size : 2 ^ s .args .n ≤ 256 = pow-mono (s .pre .1 .0 .inputs) in
+    let t = c .before .before .before .before .before .before .before .before .before .before in
+    omega (arith, t .loop-test .taken, t .before .loop .inv .0)
 
 loop-less : tie.Need-loop-less Inv-loop μ-loop
 loop-less c = search needs

@@ -14,7 +14,10 @@ use Rattle.search.proofs.pairs.try_mixed.Statement.{statement}
 use Rattle.search.proofs.pairs.try_mixed.Tie as tie
 
 abbrev Inv-loop : tie.InvT-loop
-Inv-loop blocks charges n m k mixed table places planes functions₀ all led₀ fixed₀ functions led fixed = (all ≡ 2 ^ n) × (fixed ≤ 2 ^ n) × (length functions ≡ length functions₀) × Leads n k (at table) (mixed * 2 ^ n + fixed) led
+Inv-loop blocks charges n m k mixed table places planes functions₀ all led₀ fixed₀ functions led fixed =
+    (all ≡ 2 ^ n)
+    × (fixed ≤ 2 ^ n)
+    × (length functions ≡ length functions₀) × Leads n k (at table) (mixed * 2 ^ n + fixed) led
 
 abbrev μ-loop : tie.MeasureT-loop
 μ-loop blocks charges n m k mixed table places planes functions₀ all led₀ fixed₀ functions led fixed = all - fixed
@@ -55,8 +58,10 @@ try-fixed-requires c κs =
 
 add-fixed : tie.Need-add-fixed Inv-loop μ-loop
 add-fixed c =
-    let size : 2 ^ c .before .before .before .before .before .before .before .before .before .before .before .before .before .before .before .before .before .before .args .n ≤ 256 = pow-mono (c .before .before .before .before .before .before .before .before .before .before .before .before .before .before .before .before .before .before .pre .1 .0 .inputs) in
-    omega (arith, c .before .before .before .before .before .loop-test .taken, c .before .before .before .before .before .before .loop .inv .0)
+    let s = c .before .before .before .before .before .before .before .before .before .before .before .before .before .before .before .before .before .before in
+    let size : 2 ^ s .args .n ≤ 256 = pow-mono (s .pre .1 .0 .inputs) in
+    let t = c .before .before .before .before .before in
+    omega (arith, t .loop-test .taken, t .before .loop .inv .0)
 
 loop-less : tie.Need-loop-less Inv-loop μ-loop
 loop-less c = search needs
@@ -64,7 +69,12 @@ loop-less c = search needs
 loop-again : tie.Need-loop-again Inv-loop μ-loop
 loop-again c =
     let l = c .before .before .before .before .before .before .loop in
-    (l .inv .0, omega (arith, c .before .before .before .before .before .loop-test .taken, l .inv .0), c .before .before .try-fixed .kept .1 .1 .1 .1 .1 .1 .1 .1 .1 .0 ∙ l .inv .2, rw add-one (c .before .before .try-fixed .ensures))
+    let f = c .before .before .try-fixed in (
+      l .inv .0,
+      omega (arith, c .before .before .before .before .before .loop-test .taken, l .inv .0),
+      f .kept .1 .1 .1 .1 .1 .1 .1 .1 .1 .0 ∙ l .inv .2,
+      rw add-one (f .ensures),
+    )
 
 same-length : tie.Need-same-length Inv-loop μ-loop
 same-length c = search needs

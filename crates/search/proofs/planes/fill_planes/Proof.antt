@@ -4,8 +4,9 @@ use Prim.Native.Nat.{_-_}
 use lib.ListN.{length}
 use Rattle.numbers.specs.Bytes.{at}
 use Rattle.numbers.proofs.Bytes.{Filled, filled-none, filled-more, filled-all}
+use Rattle.numbers.proofs.Shifts.{mask-shifted}
 use Rattle.search.specs.inner.Search.{planeByte}
-use Rattle.search.proofs.planes.Filling.{block-mask, block-room, output-room, plane-read}
+use Rattle.search.proofs.planes.Filling.{block-room, output-room, plane-read}
 use native.Mathlib.Omega.{arith}
 use Rattle.search.proofs.planes.fill_planes.Statement.{statement}
 use Rattle.search.proofs.planes.fill_planes.Tie as tie
@@ -32,7 +33,7 @@ plane-byte-requires : tie.Need-plane-byte-requires Inv-loop μ-loop
 plane-byte-requires c κs =
     let s = c .before .before .before .before in
     let l = c .before .loop in (
-      omega (arith, s .pre .1, block-mask (s .args .r) (l .x) (s .pre .0), block-room (s .args .r) (l .x)),
+      omega (arith, s .pre .1, mask-shifted (s .args .r) (l .x) (omega (arith, s .pre .0)), block-room (s .args .r) (l .x)),
       output-room _ _ _ (omega (arith, c .loop-test .taken, l .inv .long, s .pre .2)),
     )
 

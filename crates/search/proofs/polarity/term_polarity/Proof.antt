@@ -51,7 +51,9 @@ gather-requires : tie.Need-gather-requires
 gather-requires c κs = c .before .before .before .if1 .left
 
 element-copy-out-wide : tie.Need-element-copy-out-wide
-element-copy-out-wide c = omega (arith, c .gather .ensures, gather-small (c .before .before .before .before .before .args .n) (c .before .outside .result) (c .before .before .before .before .before .args .t) (c .before .before .before .before .if1 .left))
+element-copy-out-wide c =
+    let a = c .before .before .before .before .before .args in
+    omega (arith, c .gather .ensures, gather-small (a .n) (c .before .outside .result) (a .t) (c .before .before .before .before .if1 .left))
 
 wide-requires : tie.Need-wide-requires
 wide-requires c κs = search needs
@@ -62,15 +64,18 @@ spread-requires c κs = search needs
 add-result : tie.Need-add-result
 add-result c =
     let a = c .before .before .before .before .before .before .before .before .args in
-    let size-le : 2 ^ a .n ≤ 256 = pow-mono (c .before .before .before .before .before .before .before .if1 .left) in
-    omega (arith, fixed-lt (c .before .before .before .before .before), c .spread .ensures, spread-small (a .n) (a .mixed) (c .before .wide .result) (c .before .before .before .before .before .before .before .if1 .left))
+    let few = c .before .before .before .before .before .before .before .if1 .left in
+    let size-le : 2 ^ a .n ≤ 256 = pow-mono few in
+    omega (arith, fixed-lt (c .before .before .before .before .before), c .spread .ensures, spread-small (a .n) (a .mixed) (c .before .wide .result) few)
 
 returns-4 : tie.Need-returns-4
 unfolding termPolarity polarity
 returns-4 c =
     let a = c .before .before .before .before .before .before .before .before .args in
-    let block : c .before .before .before .gather .result ≡ gather (a .n) (outside (a .n) (a .mixed)) (a .t) = c .before .before .before .gather .ensures ∙ ap (λ (x : ℕ). gather (a .n) x (a .t)) (c .before .before .before .before .outside .ensures) in
-    rw (le-leb _ 8 (c .before .before .before .before .before .before .before .if1 .left), lt-ltb _ _ (mixed-lt (c .before .before .before .before .before .before)), lt-ltb _ _ (fixed-lt (c .before .before .before .before .before)))
+    let past = c .before .before .before .before .before in
+    let g = c .before .before .before in
+    let block : g .gather .result ≡ gather (a .n) (outside (a .n) (a .mixed)) (a .t) = g .gather .ensures ∙ ap (λ (x : ℕ). gather (a .n) x (a .t)) (g .before .outside .ensures) in
+    rw (le-leb _ 8 (past .before .before .if1 .left), lt-ltb _ _ (mixed-lt (past .before)), lt-ltb _ _ (fixed-lt past))
     (ap (λ (x : ℕ). a .fixed + x)
     (c .spread .ensures ∙ ap (spread (a .n) (a .mixed)) (c .before .wide .ensures ∙ ap (at (a .blocks .now)) block)))
 

@@ -5,7 +5,8 @@ use Prim.Native.Nat.{ℕ, _+_, _≤_}
 use native.Mathlib.Omega.{arith}
 use borrow.Author.Needs.{needs}
 use lib.ListN.{length, getD, drop}
-use Rattle.listings.specs.Parts.{all, parts, stop, fields, field}
+use Rattle.listings.specs.Parts.{all, parts, fields, field}
+use Rattle.listings.specs.inner.Stops.{stop}
 use Rattle.listings.proofs.Parts.{stop-le, first-slice, others-last, others-next, part-later, part-none}
 use Rattle.table_texts.proofs.lines.field.Statement.{statement}
 use Rattle.table_texts.proofs.lines.field.Tie as tie

@@ -4,7 +4,8 @@ use Prim.Native.Nat.{_+_, _≤_, _-_}
 use native.Mathlib.Omega.{arith}
 use borrow.Author.Needs.{needs}
 use lib.ListN.{length, drop}
-use Rattle.listings.specs.Parts.{parts, stop, fields}
+use Rattle.listings.specs.Parts.{parts, fields}
+use Rattle.listings.specs.inner.Stops.{stop}
 use Rattle.listings.proofs.Parts.{stop-le, others-last, others-next}
 use Rattle.table_texts.proofs.lines.field_count.Statement.{statement}
 use Rattle.table_texts.proofs.lines.field_count.Tie as tie

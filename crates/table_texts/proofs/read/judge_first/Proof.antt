@@ -23,11 +23,15 @@ judge-sizes-requires c κs = search needs
 
 returns-2 : tie.Need-returns-2
 unfolding judgedFirst
-returns-2 c = rw (← c .before .before .before .before .before .first-line .ensures, c .before .before .before .sizes .given .1) (sizes-refused _ _ _ (c .before .judge-sizes .ensures) (c .if1 .taken))
+returns-2 c =
+    let s = c .before .before .before in
+    rw (← s .before .before .first-line .ensures, s .sizes .given .1) (sizes-refused _ _ _ (c .before .judge-sizes .ensures) (c .if1 .taken))
 
 returns-3 : tie.Need-returns-3
 unfolding judgedFirst
-returns-3 c = rw (← c .before .before .before .before .before .first-line .ensures, c .before .before .before .sizes .given .1) (sizes-passed _ _ _ (c .before .judge-sizes .ensures) (c .if1 .left))
+returns-3 c =
+    let s = c .before .before .before in
+    rw (← s .before .before .first-line .ensures, s .sizes .given .1) (sizes-passed _ _ _ (c .before .judge-sizes .ensures) (c .if1 .left))
 
 pub judge-first-spec : {M : Type 1} → statement M
 judge-first-spec =

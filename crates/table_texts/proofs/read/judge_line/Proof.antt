@@ -129,7 +129,8 @@ returns-5 : tie.Need-returns-5
 returns-5 c =
     let l = c .before .before .before in
     let says = sym (l .later-line .ensures) ∙ c .before .enum-told .given .1 in
-    record { meaning = sym (lines-follow _ _ _ _ _ _ (l .before .before .before .seek .ensures .0) (before-end (l .before .before)) says (omega (arith, before-end (l .before .before)))); forward = tt }
+    let inside = before-end (l .before .before) in
+    record { meaning = sym (lines-follow _ _ _ _ _ _ (l .before .before .before .seek .ensures .0) inside says (omega (arith, inside))); forward = tt }
 
 returns-6 : tie.Need-returns-6
 returns-6 c =

@@ -3,7 +3,7 @@ use borrow.Author.Needs.{needs}
 use mathlib.Core.Path.{sym, ap, subst, _∙_}
 use lib.Seq.{length-take-le}
 use Rattle.search.specs.declared.expansion.Expansion.{Expansion}
-use Rattle.listings.specs.Listing.{Listable}
+use Rattle.listings.specs.inner.Listable.{Listable}
 use Rattle.text.specs.inner.Write.{WriteListing}
 use Rattle.text.proofs.compile.Tables.{part-within, searched-table, table-listable, said, compiled-answer, compiled-bytes}
 use Rattle.text.proofs.compile.compile_table.Statement.{statement}
@@ -36,8 +36,10 @@ returns : tie.Need-returns
 returns c =
     let s = c .before .before .before .before .before .before .before .before .before .before .before in
     let found = c .before .before .before .before .before .before .before .find-answer .ensures ∙ searched-table _ _ (s .pre) in
-    let w = subst (λ (e : Expansion). WriteListing (s .args .sizes .n) (s .args .sizes .m) (s .args .sizes .k) e (s .args .output .now) (c .before .before .before .before .before .write-listing .result) (c .before .before .before .before .before .write-listing .last .1 .1 .1 .1 .0)) found (c .before .before .before .before .before .write-listing .ensures) in
-    (sym (ap said (c .before .length .given .1)) ∙ compiled-answer (s .args .sizes) (s .args .table .now) _ _ _ w, compiled-bytes (s .args .sizes) (s .args .table .now) _ _ _ w)
+    let l = c .before .before .before .before .before .write-listing in
+    let z = s .args .sizes in
+    let w = subst (λ (e : Expansion). WriteListing (z .n) (z .m) (z .k) e (s .args .output .now) (l .result) (l .last .1 .1 .1 .1 .0)) found (l .ensures) in
+    (sym (ap said (c .before .length .given .1)) ∙ compiled-answer z (s .args .table .now) _ _ _ w, compiled-bytes z (s .args .table .now) _ _ _ w)
 
 same-length-2 : tie.Need-same-length-2
 same-length-2 c = search needs
@@ -46,8 +48,10 @@ returns-2 : tie.Need-returns-2
 returns-2 c =
     let s = c .before .before .before .before .before .before .before .before .before .before in
     let found = c .before .before .before .before .before .before .find-answer .ensures ∙ searched-table _ _ (s .pre) in
-    let w = subst (λ (e : Expansion). WriteListing (s .args .sizes .n) (s .args .sizes .m) (s .args .sizes .k) e (s .args .output .now) (c .before .before .before .before .write-listing .result) (c .before .before .before .before .write-listing .last .1 .1 .1 .1 .0)) found (c .before .before .before .before .write-listing .ensures) in
-    (sym (ap said (c .enum-told .given .1)) ∙ compiled-answer (s .args .sizes) (s .args .table .now) _ _ _ w, compiled-bytes (s .args .sizes) (s .args .table .now) _ _ _ w)
+    let l = c .before .before .before .before .write-listing in
+    let z = s .args .sizes in
+    let w = subst (λ (e : Expansion). WriteListing (z .n) (z .m) (z .k) e (s .args .output .now) (l .result) (l .last .1 .1 .1 .1 .0)) found (l .ensures) in
+    (sym (ap said (c .enum-told .given .1)) ∙ compiled-answer z (s .args .table .now) _ _ _ w, compiled-bytes z (s .args .table .now) _ _ _ w)
 
 pub compile-table-spec : {M : Type 1} → statement M
 compile-table-spec =

@@ -13,7 +13,10 @@ use Rattle.text.proofs.write.write_listing.Statement.{statement}
 use Rattle.text.proofs.write.write_listing.Tie as tie
 
 -- the listing has room
-room : (c : tie.Else1) → let a = c .before .before .before .before .before .args in 16 + digitsOf (numbersOf (a .n) (a .m) (a .k) (a .e)) + a .e .products * (a .n + a .m + 7) ≤ length (a .out .now)
+room :
+    (c : tie.Else1) →
+    let a = c .before .before .before .before .before .args in
+    16 + digitsOf (numbersOf (a .n) (a .m) (a .k) (a .e)) + a .e .products * (a .n + a .m + 7) ≤ length (a .out .now)
 room c = omega (arith, c .if1 .left, c .before .before .digits-of .ensures)
 
 slice-aggregate-digits-of : tie.Need-slice-aggregate-digits-of

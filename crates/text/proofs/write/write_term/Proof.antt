@@ -81,7 +81,8 @@ byte-requires-3 c κs =
     let u = cube .cube .ensures in
     let b = tab .byte .ensures in
     let w = word .word .ensures in
-    omega (arith, room (word .before .before .before), w .to, put-length w, b .to, put-length b, u .to, put-length u, length-cube (a .n) (a .t) (a .w), d .to, put-length d, o .to, put-length o, length-outputs (a .m) (a .c))
+    let said = length-outputs (a .m) (a .c) in
+    omega (arith, room (word .before .before .before), w .to, put-length w, b .to, put-length b, u .to, put-length u, length-cube (a .n) (a .t) (a .w), d .to, put-length d, o .to, put-length o, said)
 
 same-length : tie.Need-same-length
 same-length c = search needs
@@ -98,7 +99,8 @@ returns-2 c =
     let a = word .before .before .before .before .before .args in
     let term = put-then (word .word .ensures) (tab .byte .ensures) in
     let fields = put-then (put-then (put-then term (cube .cube .ensures)) (next .byte2 .ensures)) (outputs .outputs .ensures) in
-    rw (ifProduct-some (a .c) (termLine (a .n) (a .m) (a .t) (a .w) (a .c)) (word .before .before .before .if1 .left), termLine-fields (a .n) (a .m) (a .t) (a .w) (a .c)) (put-then fields (end .byte3 .ensures))
+    let some = ifProduct-some (a .c) (termLine (a .n) (a .m) (a .t) (a .w) (a .c)) (word .before .before .before .if1 .left) in
+    rw (some, termLine-fields (a .n) (a .m) (a .t) (a .w) (a .c)) (put-then fields (end .byte3 .ensures))
 
 pub write-term-spec : {M : Type 1} → statement M
 write-term-spec =

@@ -17,7 +17,9 @@ use Rattle.text.proofs.write.write_terms.Statement.{statement}
 use Rattle.text.proofs.write.write_terms.Tie as tie
 
 abbrev Inv-loop : tie.InvT-loop
-Inv-loop out₀ n m mixed fixed coefficients blocks size place₀ t₀ out place t = (t ≤ 2 ^ n) × Put out₀ (place₀ .at) (termLines n m (polarity n mixed fixed (at blocks)) (at coefficients) t) out (place .at)
+Inv-loop out₀ n m mixed fixed coefficients blocks size place₀ t₀ out place t =
+    (t ≤ 2 ^ n)
+    × Put out₀ (place₀ .at) (termLines n m (polarity n mixed fixed (at blocks)) (at coefficients) t) out (place .at)
 
 abbrev μ-loop : tie.MeasureT-loop
 μ-loop out₀ n m mixed fixed coefficients blocks size place₀ t₀ out place t = 2 ^ n - t

@@ -4,7 +4,7 @@ use Prim.Native.Nat.{_-_}
 use native.Mathlib.Omega.{arith}
 use borrow.Author.Needs.{needs}
 use lib.ListN.{length}
-use Rattle.listings.specs.Parts.{stop}
+use Rattle.listings.specs.inner.Stops.{stop}
 use Rattle.listings.proofs.Parts.{length-here, length-on, length-end}
 use Rattle.table_texts.proofs.cursor.Cursor.seek.Statement.{statement}
 use Rattle.table_texts.proofs.cursor.Cursor.seek.Tie as tie

@@ -1,4 +1,4 @@
--- What the terms of one block are charged, by their bits in a byte.
+-- What the terms of one block are charged, by their bits in a byte. Cited by the contracts of private functions alone.
 use mathlib.Core.List.{List, [], _∷_}
 use Prim.Native.Nat.{ℕ, _*_}
 use Rattle.numbers.specs.Bytes.{at}
