@@ -12,6 +12,13 @@ use native.Mathlib.Omega.{arith}
 use Rattle.text.proofs.write.write_listing.Statement.{statement}
 use Rattle.text.proofs.write.write_listing.Tie as tie
 
+-- the first line is written
+form : (c : tie.After-write-form)
+    → let a = c .before .before .before .before .before .before .before .before .before .before .args in
+    Put (a .out .now) 0 (formLine (a .n) (a .m) (a .k) (a .e)) (c .write-form .last .1 .0) (c .write-form .result .at)
+unfolding formLine
+form c = c .write-form .ensures
+
 -- the listing has room
 room :
     (c : tie.Else1) →
@@ -61,34 +68,32 @@ write-form-requires : tie.Need-write-form-requires
 write-form-requires c κs = search needs
 
 write-terms-requires : tie.Need-write-terms-requires
-unfolding formLine
 write-terms-requires c κs =
     let p = c .before .before .before .before .before in
     let r = p .before .before .before .before .before in
     let s = r .before .before .before .before .before in
     let a = s .args in
-    let form : Put (a .out .now) 0 (formLine (a .n) (a .m) (a .k) (a .e)) _ _ = p .write-form .ensures in (
+    let f = form p in (
       (s .pre .inputs, s .pre .outputs, s .pre .mixed, s .pre .fixed),
-      omega (arith, room r, form .to, put-length form, length-formLine (a .n) (a .m) (a .k) (a .e), length-products (a .n) (a .m) (a .e) (s .pre)),
+      omega (arith, room r, f .to, put-length f, length-formLine (a .n) (a .m) (a .k) (a .e), length-products (a .n) (a .m) (a .e) (s .pre)),
     )
 
 write-end-requires : tie.Need-write-end-requires
-unfolding formLine
 write-end-requires c κs =
     let t = c .before .before .before in
     let p = t .before .before .before .before .before .before in
     let r = p .before .before .before .before .before in
     let s = r .before .before .before .before .before in
     let a = s .args in
-    let form : Put (a .out .now) 0 (formLine (a .n) (a .m) (a .k) (a .e)) _ _ = p .write-form .ensures in
+    let f = form p in
     let terms = t .write-terms .ensures in
-    omega (arith, room r, form .to, put-length form, length-formLine (a .n) (a .m) (a .k) (a .e), terms .to, put-length terms, length-products (a .n) (a .m) (a .e) (s .pre))
+    omega (arith, room r, f .to, put-length f, length-formLine (a .n) (a .m) (a .k) (a .e), terms .to, put-length terms, length-products (a .n) (a .m) (a .e) (s .pre))
 
 same-length : tie.Need-same-length
 same-length c = search needs
 
 returns-2 : tie.Need-returns-2
-unfolding listing formLine
+unfolding listing
 returns-2 c =
     let d = c .before .before in
     let t = d .before .before .before .before in
@@ -97,7 +102,7 @@ returns-2 c =
     let s = r .before .before .before .before .before in
     let a = s .args in
     let fits : length (listing (a .n) (a .m) (a .k) (a .e)) ≤ length (a .out .now) = omega (arith, room r, length-stated (a .n) (a .m) (a .e) (s .pre) (a .k)) in
-    listing-written (a .n) (a .m) (a .k) (a .e) _ _ _ fits (put-then (put-then (p .write-form .ensures) (t .write-terms .ensures)) (d .write-end .ensures))
+    listing-written (a .n) (a .m) (a .k) (a .e) _ _ _ fits (put-then (put-then (form p) (t .write-terms .ensures)) (d .write-end .ensures))
 
 pub write-listing-spec : {M : Type 1} → statement M
 write-listing-spec =
