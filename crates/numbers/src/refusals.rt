@@ -4,11 +4,13 @@ ghost use Prim.Native.Nat.{_^_};
 ghost use Rattle.numbers.specs.Bytes.{allBelow};
 ghost use Rattle.numbers.specs.Refusals.{tableRefusal, sizesRefusal};
 
-// The most inputs a table has, the most outputs, and the most mixed inputs.
+// The most inputs a table has.
 pub const MOST_INPUTS: usize = 8;
 
+// The most outputs.
 pub const MOST_OUTPUTS: usize = 8;
 
+// The most mixed inputs; there are at most n.
 pub const MOST_MIXED: usize = 3;
 
 // The refusal of the sizes of a table: 2 where n is not 1 to 8, 3 where m is not, and 0 where both are.

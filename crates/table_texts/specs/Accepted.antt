@@ -1,4 +1,4 @@
--- What holds of the sizes and the table of every text that is accepted (proofs/Accepted, `reading-accepted`).
+-- What holds of the sizes and the table of every text that is accepted (proofs/read/Accepted, `reading-accepted`).
 use mathlib.Core.List.{List}
 use mathlib.Core.Path.{_≡_}
 use Prim.Native.Nat.{ℕ, _^_, _<_, _≤_}

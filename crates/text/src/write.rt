@@ -1,5 +1,5 @@
 // Writing the listing of an expansion into a lent buffer. Its length is known before the first byte is written, so a buffer that is too
-// short is left as it was. The main property: the bytes written are `listing` of specs/Listing, and the bytes past them are as they were.
+// short is left as it was. The main property: the bytes written are `listing` of crates/listings/specs/Listing, and the bytes past them are as they were.
 use crate::writer::Writer;
 use crate::writer::digit_count;
 use search::expansion::Expansion;

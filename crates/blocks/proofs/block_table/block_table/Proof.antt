@@ -1,5 +1,5 @@
 -- The rule of all 2,048 entries is one test, which the checker computes; `matches-tabulate` turns it into the equation, and
--- `blockTable-entry` (proofs/BlockTable) reads an entry off it.
+-- `blockTable-entry` (crates/expansions/proofs/BlockTable) reads an entry off it.
 use mathlib.Core.Path.{refl}
 use Rattle.numbers.specs.Sums.{foldBelow}
 use Rattle.numbers.specs.Bits.{inside, pack}

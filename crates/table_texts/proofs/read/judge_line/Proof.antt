@@ -1,4 +1,4 @@
--- `judge_line` meets its contract. Each return cites the law of proofs/Steps.antt for what the line says.
+-- `judge_line` meets its contract. Each return cites the law of proofs/read/Steps.antt for what the line says.
 use mathlib.Core.Bool.{true, _&&_}
 use mathlib.Core.List.{List}
 use mathlib.Core.Path.{_≡_, ap, sym, _∙_}
