@@ -4,12 +4,12 @@ use mathlib.Core.Path.{_≡_, refl, sym, ap, _∙_}
 use Prim.Native.Nat.{ℕ, _+_, _/_, _%_, _^_, _≤_, _<_}
 use native.Mathlib.Nat.{mod-eq-of-lt, zero-div}
 use lib.Pow.{pow-pos}
-use lib.Bits.{bitXor, xor-lt, xor-shr, xor-mod, xor-comm}
+use lib.Bits.{bitXor, xor-lt, xor-shr, xor-mod}
 use Rattle.numbers.specs.Bits.{bit}
 use Rattle.algebra.specs.Terms.{holds, value}
 use Rattle.algebra.specs.Coefficients.{xorInside, coefficient}
-use Rattle.numbers.proofs.Xor.{xor-assoc, xor-cancel-r}
-use Rattle.algebra.proofs.Inside.{inside-none, inside-ext, inside-map, inside-closed, inside-twice, inside-smaller, inside-ignored, inside-missing}
+use Rattle.numbers.proofs.Xor.{xor-cancel-r}
+use Rattle.algebra.proofs.Inside.{inside-ext, inside-map, inside-closed, inside-twice, inside-smaller, inside-missing}
 use Rattle.algebra.proofs.Value.{value-unique}
 
 -- ---- the value in one polarity, and the coefficients, by xorInside
@@ -43,11 +43,6 @@ pub coefficient-ext : (n w : ℕ) (f g : ℕ → ℕ) → w < 2 ^ n → ((p : �
 unfolding coefficient
 coefficient-ext n w f g h e t = inside-ext n _ _ t (λ q l. e (bitXor q w) (xor-lt n q w l h))
 
--- with no input the one coefficient is the one value
-pub coefficient-none : (f : ℕ → ℕ) (t : ℕ) → coefficient 0 0 f t ≡ f 0
-unfolding coefficient
-coefficient-none f t = inside-none (λ q. f (bitXor q 0)) t
-
 -- each output by itself
 pub coefficient-bit : (o n w : ℕ) (f : ℕ → ℕ) (t : ℕ) → bit o (coefficient n w f t) ≡ coefficient n w (λ q. bit o (f q)) t
 unfolding coefficient
@@ -61,16 +56,6 @@ coefficient-lt m n w f h b t = inside-closed (λ x. x < 2 ^ m) (pow-pos m) (xor-
 
 pub value-lt : (m n w : ℕ) (c : ℕ → ℕ) → ((t : ℕ) → t < 2 ^ n → c t < 2 ^ m) → (p : ℕ) → value n (λ t. w) c p < 2 ^ m
 value-lt m n w c b p = rw (value-inside n w c p) (inside-closed (λ x. x < 2 ^ m) (pow-pos m) (xor-lt m) n c (bitXor p w) b)
-
--- a function that ignores the input i has no coefficient on a term with it
-pub coefficient-ignored : (n w i : ℕ) (f : ℕ → ℕ) → w < 2 ^ n → i < n → ((p : ℕ) → p < 2 ^ n → f (bitXor p (2 ^ i)) ≡ f p)
-    → (t : ℕ) → bit i t ≡ 1 → coefficient n w f t ≡ 0
-unfolding coefficient
-coefficient-ignored n w i f h l e t b =
-    inside-ignored n i (λ q. f (bitXor q w)) t l (λ q k. ap f (turn q) ∙ e (bitXor q w) (xor-lt n q w k h)) b
-  where
-    turn : (q : ℕ) → bitXor (bitXor q (2 ^ i)) w ≡ bitXor (bitXor q w) (2 ^ i)
-    turn q = xor-assoc q (2 ^ i) w ∙ ap (bitXor q) (xor-comm (2 ^ i) w) ∙ sym (xor-assoc q w (2 ^ i))
 
 -- a function of the k lowest of k + m inputs: on the terms of those inputs it has the coefficients of the smaller function
 pub coefficient-smaller : (k m w : ℕ) (g : ℕ → ℕ) (t : ℕ) → t < 2 ^ k → coefficient (k + m) w (λ p. g (p % 2 ^ k)) t ≡ coefficient k (w % 2 ^ k) g t

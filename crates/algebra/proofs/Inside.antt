@@ -6,13 +6,13 @@ use Prim.Native.Nat.{ℕ, zero, suc, _+_, _*_, _/_, _%_, _^_, _≤_, _<_}
 use native.Mathlib.Nat.{add-zero, zero-add, suc-add, mod-one}
 use native.Mathlib.Omega.{arith}
 use lib.Arith.{lt-one, digits-div}
-use lib.Bits.{bitXor, xor-self, differ, xor-zero-r}
+use lib.Bits.{bitXor, xor-self, xor-zero-r}
 use Rattle.numbers.specs.Sums.{foldBelow}
-use Rattle.numbers.specs.Bits.{bit, inside}
+use Rattle.numbers.specs.Bits.{inside}
 use Rattle.numbers.specs.Tests.{only}
 use Rattle.algebra.specs.Coefficients.{xorInside}
-use Rattle.numbers.proofs.Xor.{low-lt, xor-cancel-l, xor-digits}
-use Rattle.numbers.proofs.Bits.{mod-digits, bit-zero, bit-suc, covered, inside-digits}
+use Rattle.numbers.proofs.Xor.{low-lt, xor-cancel-l}
+use Rattle.numbers.proofs.Bits.{mod-digits, covered, inside-digits}
 use Rattle.numbers.proofs.Sums.{fold-ext, fold-map, fold-closed, xor-op, xor-split, below-split}
 use Rattle.numbers.proofs.Tests.{only-map, only-closed, only-xor}
 
@@ -125,36 +125,6 @@ inside-both n g t a b = go (t % 2) (low-lt t) (omega arith)
     go zero h e = ap (xorInside (suc n) g) (e ∙ add-zero (t / 2 * 2)) ∙ inside-even n g (t / 2) ∙ a
     go (suc zero) h e = ap (xorInside (suc n) g) e ∙ inside-odd n g (t / 2) ∙ ap₂ bitXor a b
     go (suc (suc d)) h e = absurd (omega arith)
-
--- inverting bit i + 1 of 2 r + b is inverting bit i of r
-flip-up : (i r b : ℕ) → b < 2 → bitXor (r * 2 + b) (2 ^ suc i) ≡ bitXor r (2 ^ i) * 2 + b
-flip-up i r b h =
-    let d : 2 ^ suc i / 2 ≡ 2 ^ i = omega arith in
-    let m : 2 ^ suc i % 2 ≡ 0 = omega arith in
-    xor-digits r b (2 ^ suc i) h ∙ rw (d, m, differ-zero b)
-  where
-    differ-zero : (x : ℕ) → differ x 0 ≡ x
-    differ-zero zero = refl
-    differ-zero (suc x) = refl
-
-flip-even : (i r : ℕ) → bitXor (r * 2) (2 ^ suc i) ≡ bitXor r (2 ^ i) * 2
-flip-even i r = ap (λ (x : ℕ). bitXor x (2 ^ suc i)) (sym (add-zero (r * 2))) ∙ flip-up i r 0 (omega arith) ∙ add-zero (bitXor r (2 ^ i) * 2)
-
-flip-low : (r : ℕ) → bitXor (r * 2) 1 ≡ r * 2 + 1
-flip-low r = ap (λ (x : ℕ). bitXor x 1) (sym (add-zero (r * 2))) ∙ xor-digits r 0 1 (omega arith) ∙ ap (λ (x : ℕ). x * 2 + 1) (xor-zero-r r)
-
--- of a bit that the function ignores, both values cancel
-pub inside-ignored : (n i : ℕ) (g : ℕ → ℕ) (t : ℕ) → i < n → ((q : ℕ) → q < 2 ^ n → g (bitXor q (2 ^ i)) ≡ g q) → bit i t ≡ 1 → xorInside n g t ≡ 0
-inside-ignored zero i g t l f e = absurd (omega arith)
-inside-ignored (suc n) zero g t l f e =
-    let o : t ≡ t / 2 * 2 + 1 = omega (arith, bit-zero t) in
-    ap (xorInside (suc n) g) o ∙ inside-odd n g (t / 2)
-    ∙ ap (bitXor (xorInside n (evens g) (t / 2))) (inside-ext n (odds g) (evens g) (t / 2) (λ r k. ap g (sym (flip-low r)) ∙ f (r * 2) (omega arith)))
-    ∙ xor-self (xorInside n (evens g) (t / 2))
-inside-ignored (suc n) (suc i) g t l f e =
-    inside-both n g t
-    (inside-ignored n i (evens g) (t / 2) (omega arith) (λ r k. ap g (sym (flip-even i r)) ∙ f (r * 2) (omega arith)) (sym (bit-suc i t) ∙ e))
-    (inside-ignored n i (odds g) (t / 2) (omega arith) (λ r k. ap g (sym (flip-up i r 1 (omega arith))) ∙ f (r * 2 + 1) (omega arith)) (sym (bit-suc i t) ∙ e))
 
 -- ---- a function of the k lowest bits
 

@@ -2,3 +2,6 @@ pub mod Terms
 pub mod Value
 pub mod Inside
 pub mod Coefficients
+pub mod HalfSteps
+pub mod Turned
+pub mod Lanes

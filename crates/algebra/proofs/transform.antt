@@ -1,3 +1,4 @@
-pub mod Steps
-pub mod Joining
+pub mod Runs
+pub mod Halves
+pub mod Inputs
 pub mod Filling

@@ -43,7 +43,7 @@ pub fn forward(n: usize, m: usize, w: usize, table: &[u8], coefficients: &mut [u
     if number != 0 {
         return Transformed::Refused { number, line: 0 };
     }
-    coefficients_into(n, w, table, coefficients);
+    coefficients_into(0, n, w, table, coefficients);
     Transformed::Done
 }
 

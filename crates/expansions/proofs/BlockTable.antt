@@ -1,14 +1,15 @@
 -- The block table's rule from equation (1) (`entry-value`, `entry-unique`), and what the table tells of a block of k ≤ 3 inputs and m
 -- outputs. Bit t of `used m k φ g` is 1 exactly where the term t has a coefficient under φ (`used-bit`), so a block's charge is a sum over
--- the bits of one byte (`used-sum`); and the transform over the other inputs acts on the bytes of the outputs (`plane-coefficient`).
+-- the bits of one byte (`used-sum`); and the transform over the other inputs acts on the bytes of the outputs (`plane-coefficient`). The charge
+-- of a pair is less than 2 ^ 31 (`pairCharge-small`).
 use mathlib.Core.Path.{_≡_, sym, ap, ap₂, _∙_}
 use Prim.Native.Nat.{ℕ, zero, suc, _+_, _-_, _*_, _/_, _%_, _^_, _≤_, _<_, max}
-use native.Mathlib.Nat.{mod-lt, mod-eq-of-lt, add-zero, add-suc, zero-mul}
+use native.Mathlib.Nat.{mod-lt, mod-eq-of-lt, add-zero, add-suc, zero-mul, mul-le-mul}
 use native.Mathlib.Omega.{arith}
 use lib.Arith.{digits-div, digits-mod}
 use lib.Pow.{pow-pos, pow-mono}
 use lib.Bits.{bitOr, or-lt}
-use lib.Count.{onesIn, ones}
+use lib.Count.{onesIn, ones, ones-le}
 use Rattle.numbers.specs.Bytes.{at}
 use Rattle.numbers.specs.Sums.{foldBelow, sumBelow}
 use Rattle.numbers.specs.Bits.{bit, pack}
@@ -18,7 +19,7 @@ use Rattle.numbers.proofs.Bytes.{at-tabulate}
 use Rattle.numbers.proofs.Sums.{fold-ext, fold-closed}
 use Rattle.algebra.proofs.Value.{value-ext}
 use Rattle.algebra.proofs.Coefficients.{value-coefficient, coefficient-unique, coefficient-ext, coefficient-bit, coefficient-lt, coefficient-smaller, coefficient-missing}
-use Rattle.expansions.specs.Answers.{blockFunction, blockCharge}
+use Rattle.expansions.specs.Answers.{blockFunction, blockCharge, pairCharge}
 use Rattle.expansions.specs.BlockTable.{entry, blockTable}
 use Rattle.expansions.specs.inner.Planes.{plane}
 use Rattle.expansions.specs.Costs.{counted, weight}
@@ -26,7 +27,9 @@ use Rattle.expansions.specs.inner.Charges.{literalCount, byteCharge}
 use Rattle.numbers.proofs.Bits.{bit-lt}
 use Rattle.numbers.proofs.Pack.{pack-ext, pack-lt, pack-bit, pack-bits, bit-ors}
 use Rattle.expansions.proofs.Blocks.{blockFunction-lt}
-use Rattle.expansions.proofs.Counted.{counted-mul, counted-bits}
+use Rattle.expansions.proofs.Counted.{counted-mul, counted-bits, counted-le, weight-le}
+use Rattle.expansions.proofs.Costs.{sum-le}
+use Rattle.expansions.proofs.Minimal.{pairCharge-le}
 use Rattle.expansions.proofs.Charges.{literalCount-ones, byteCharge-outside}
 
 -- the terms that some of the m outputs has under φ, as the bits of a byte: "A product used by several outputs counts as a single product"
@@ -179,3 +182,22 @@ pub blockCharge-byte : (m n k : ℕ) (f : ℕ → ℕ) (M i j φ : ℕ) → k �
 unfolding blockCharge
 blockCharge-byte m n k f M i j φ few polarity size outputs =
     used-charge m k φ (blockFunction n k f M i j) few polarity (λ p l. blockFunction-lt m n k M i f outputs size j p) (ones j)
+
+-- ---- bounds
+
+-- each of the 2 ^ k terms of a block has at most n literals
+blockCharge-le : (n k : ℕ) (f : ℕ → ℕ) (M i j φ : ℕ) → k ≤ n → j < 2 ^ (n - k) → blockCharge n k f M i j φ ≤ 2 ^ k * weight n
+unfolding blockCharge
+blockCharge-le n k f M i j φ hk h =
+    sum-le (2 ^ k) (weight n) _
+    (λ r l. counted-le (coefficient k φ (blockFunction n k f M i j) r) (weight (ones j + ones r)) (weight n)
+    (weight-le (ones j + ones r) n (omega (arith, ones-le (n - k) j h, ones-le k r l))))
+
+-- and so the charge of a pair is small
+pub pairCharge-small : (n k : ℕ) (f : ℕ → ℕ) (M i : ℕ) → n ≤ 8 → k ≤ 3 → k ≤ n → pairCharge n k (blockCharge n k f M i) < 2 ^ 31
+unfolding weight
+pairCharge-small n k f M i hn hk within =
+    let blocks = pairCharge-le n k (2 ^ k * weight n) (blockCharge n k f M i) (λ j φ h l. blockCharge-le n k f M i j φ within h) in
+    let places : 2 ^ k * weight n ≤ 2 ^ 3 * weight 8 = mul-le-mul (pow-mono hk) (weight-le n 8 hn) in
+    let most : 2 ^ (n - k) * (2 ^ k * weight n) ≤ 2 ^ 8 * (2 ^ 3 * weight 8) = mul-le-mul (pow-mono {j = 8} (omega arith)) places in
+    omega arith

@@ -1,11 +1,10 @@
 -- What a byte of terms is charged. The eight literal counts are the numbers of bits (`literalCount-ones`), literals outside the block add
--- their number for each bit of the byte (`byteCharge-outside`), and the number of bits can be read from the charge (`byteCharge-terms`).
+-- their number for each bit of the byte (`byteCharge-outside`), and what a byte costs is bounded (`usedCharge-le`).
 use mathlib.Core.Path.{_≡_, refl, sym, ap, _∙_}
 use mathlib.Core.List.{List}
-use Prim.Native.Nat.{ℕ, _+_, _*_, _/_, _^_, _≤_, _<_}
+use Prim.Native.Nat.{ℕ, _+_, _*_, _^_, _≤_, _<_}
 use native.Mathlib.Nat.{add-assoc, add-comm, add-zero, mul-add, mul-comm, mul-le-mul, mul-zero, le-of-suc-le-suc}
 use native.Mathlib.Omega.{arith}
-use lib.Arith.{digits-div}
 use lib.Count.{ones, onesIn, ones-le}
 use Rattle.numbers.specs.Bytes.{at}
 use Rattle.numbers.specs.Sums.{sumBelow}
@@ -13,12 +12,12 @@ use Rattle.numbers.specs.Bits.{bit}
 use Rattle.numbers.proofs.Bytes.{at-tabulate}
 use Rattle.numbers.proofs.Sums.{fold-ext, fold-map, fold-op}
 use Rattle.expansions.specs.Costs.{weight}
-use Rattle.expansions.specs.inner.Charges.{literalCounts, literalCount, byteCharge}
+use Rattle.expansions.specs.inner.Charges.{literalCounts, literalCount, byteCharge, usedCharge}
 use Rattle.numbers.proofs.Tables.{matches, matches-tabulate}
 use Rattle.numbers.proofs.Bits.{bit-lt}
 use Rattle.numbers.proofs.Pack.{ones-bits}
 use Rattle.expansions.proofs.Counted.{weight-more, weight-le}
-use Rattle.expansions.proofs.Costs.{sum-le, sum-digits}
+use Rattle.expansions.proofs.Costs.{sum-le}
 
 -- ---- literal counts
 
@@ -32,11 +31,11 @@ literalCount-le t h = rw (literalCount-ones t h) (ones-le 3 t h)
 -- ---- a byte's charge
 
 -- a term of a block is charged at most what three literals weigh
-pub byteCharge-term : (t u : ℕ) → t < 8 → bit t u * weight (literalCount t) ≤ weight 3
+byteCharge-term : (t u : ℕ) → t < 8 → bit t u * weight (literalCount t) ≤ weight 3
 byteCharge-term t u h =
     omega (arith, mul-le-mul (le-of-suc-le-suc (bit-lt t u)) (weight-le (literalCount t) 3 (literalCount-le t h)))
 
-pub byteCharge-le : (u : ℕ) → byteCharge u ≤ 8 * weight 3
+byteCharge-le : (u : ℕ) → byteCharge u ≤ 8 * weight 3
 unfolding byteCharge
 byteCharge-le u = sum-le 8 (weight 3) (λ t. bit t u * weight (literalCount t)) (λ t l. byteCharge-term t u l)
 
@@ -53,18 +52,7 @@ byteCharge-outside outside u h =
     apart : (b x : ℕ) → b * weight (outside + x) ≡ b * weight x + outside * b
     apart b x = rw (weight-more outside x, mul-add b (weight x) outside, mul-comm b outside)
 
--- the number of terms is read from the charge, for there are fewer than 4,096 literals
-pub byteCharge-terms : (u : ℕ) → u < 2 ^ 8 → byteCharge u / 4096 ≡ ones u
-unfolding byteCharge weight
-byteCharge-terms u h = rw parts (digits-div (ones u) few)
-  where
-    literals : ℕ → ℕ
-    literals t = bit t u * literalCount t
-
-    few : sumBelow 8 literals < 4096
-    few = omega (arith, sum-le 8 3 literals (λ t l. omega (arith, mul-le-mul (le-of-suc-le-suc (bit-lt t u)) (literalCount-le t l))))
-
-    parts : byteCharge u ≡ ones u * 4096 + sumBelow 8 literals
-    parts =
-        fold-ext _+_ 8 _ _ (λ t l. mul-add (bit t u) 4096 (literalCount t)) ∙ sum-digits 8 4096 (λ t. bit t u) literals
-        ∙ ap (λ (x : ℕ). x * 4096 + sumBelow 8 literals) (ones-bits 8 u h)
+-- eight terms, each with at most three literals in the block and eight outside the mixed set
+pub usedCharge-le : (more u : ℕ) → more ≤ 8 → u < 2 ^ 8 → usedCharge more u ≤ 8 * weight 11
+unfolding usedCharge weight
+usedCharge-le more u hm hu = omega (arith, byteCharge-le u, mul-le-mul hm (ones-le 8 u hu))

@@ -23,7 +23,7 @@ charge n c = sumBelow (2 ^ n) (λ t. counted (c t) (weight (ones t)))
 
 -- ---- sums of counted numbers
 
-sum-mono : (N : ℕ) (g h : ℕ → ℕ) → ((t : ℕ) → t < N → g t ≤ h t) → sumBelow N g ≤ sumBelow N h
+pub sum-mono : (N : ℕ) (g h : ℕ → ℕ) → ((t : ℕ) → t < N → g t ≤ h t) → sumBelow N g ≤ sumBelow N h
 unfolding foldBelow
 sum-mono zero g h e = omega arith
 sum-mono (suc N) g h e = omega (arith, sum-mono N g h (λ t l. e t (omega arith)), e N (omega arith))

@@ -1,4 +1,5 @@
 pub mod Split
+pub mod Ascending
 pub mod Masks
 pub mod Least
 pub mod Blocks
@@ -8,4 +9,5 @@ pub mod Costs
 pub mod Minimal
 pub mod Answers
 pub mod Charges
+pub mod SmallSums
 pub mod BlockTable

@@ -1,21 +1,17 @@
--- Masks as code computes them: the inputs outside M as a difference (`outside-difference`), the test that i is clear of M as a bitwise AND
--- (`gather-clear`), and gather and spread one input at a time, from the lowest (`gather-next`, `spread-next`).
+-- Masks as code computes them: the inputs outside M as a difference (`outside-difference`), and gather and spread one input at a time, from
+-- the lowest (`gather-next`, `spread-next`). When M and i are a pair (`valid-from`, `valid-size`, `valid-clear`).
 use mathlib.Core.Path.{_≡_, refl, sym, ap, _∙_}
-use mathlib.Core.Bool.{Bool, _&&_}
-use mathlib.Core.Logic.{_↔_}
-use Prim.Native.Nat.{ℕ, zero, suc, _+_, _-_, _*_, _/_, _%_, _^_, _≤_, _<_, min}
+use Prim.Native.Nat.{ℕ, zero, suc, _+_, _-_, _*_, _/_, _%_, _^_, _≤_, _<_}
 use native.Mathlib.Nat.{not-suc-le-zero, zero-add, mul-one, mul-comm, mul-assoc, pow-suc}
 use native.Mathlib.Omega.{arith}
 use native.Mathlib.Numerals.{one-add}
-use lib.Arith.{lt-one}
-use lib.Bits.{bitAnd, and-step}
 use lib.Count.{onesIn}
 use lib.Pow.{pow-pos, pow-add}
 use lib.Dec.{T, eqb, eqb→eq, eqb-refl}
 use Rattle.numbers.specs.Bits.{bit}
 use Rattle.numbers.proofs.Xor.{low-lt}
 use Rattle.numbers.proofs.Bits.{bit-zero, bit-suc}
-use Rattle.numbers.proofs.Tests.{eqb-same, and-intro, and-left, and-right}
+use Rattle.numbers.proofs.Tests.{and-intro, and-left, and-right}
 use Rattle.expansions.specs.Split.{putDigit, lowDigit, dropDigit, gather, spread, outside}
 use Rattle.expansions.specs.Answers.{validPair}
 
@@ -48,21 +44,6 @@ ones-least (suc n) M = go (M % 2) refl (ones-least n (M / 2)) where
   go (suc zero) e h = let more : 1 + onesIn n (M / 2) ≡ suc (onesIn n (M / 2)) = omega arith in rw more (omega arith)
   go (suc (suc b)) e h = absurd (omega arith)
 
--- ---- clear of M
-
-clear-digit : (m b x y : ℕ) → m < 2 → b < 2 → (x ≡ 0 ↔ y ≡ 0) → (putDigit m x b ≡ 0) ↔ (y * 2 + min b m ≡ 0)
-unfolding putDigit
-clear-digit zero b x y hm hb e = ((λ z. omega (arith, e .0 z)), (λ z. e .1 (omega arith)))
-clear-digit (suc zero) zero x y hm hb e = ((λ z. omega (arith, e .0 (omega arith))), (λ z. omega (arith, e .1 (omega arith))))
-clear-digit (suc zero) (suc zero) x y hm hb e = ((λ z. absurd (omega arith)), (λ z. absurd (omega arith)))
-clear-digit (suc zero) (suc (suc b)) x y hm hb e = absurd (omega arith)
-clear-digit (suc (suc m)) b x y hm hb e = absurd (omega arith)
-
-pub gather-clear : (n M i : ℕ) → i < 2 ^ n → (gather n M i ≡ 0) ↔ (bitAnd i M ≡ 0)
-unfolding gather
-gather-clear zero M i h = rw (lt-one h) ((λ e. refl), (λ e. refl))
-gather-clear (suc n) M i h = rw (and-step i M) (clear-digit (M % 2) (i % 2) _ _ (low-lt M) (low-lt i) (gather-clear n (M / 2) (i / 2) (omega arith)))
-
 -- ---- valid pairs
 
 pub valid-from : (n k M i : ℕ) → onesIn n M ≡ k → gather n M i ≡ 0 → T (validPair n k M i)
@@ -76,12 +57,6 @@ valid-size n k M i t = eqb→eq (onesIn n M) k (and-left (eqb (onesIn n M) k) (e
 pub valid-clear : (n k M i : ℕ) → T (validPair n k M i) → gather n M i ≡ 0
 unfolding validPair
 valid-clear n k M i t = eqb→eq (gather n M i) 0 (and-right (eqb (onesIn n M) k) (eqb (gather n M i) 0) t)
-
--- the test by code, with a bitwise AND
-pub valid-mask : (n k M i : ℕ) → i < 2 ^ n → validPair n k M i ≡ (eqb (onesIn n M) k && eqb (bitAnd i M) 0)
-unfolding validPair
-valid-mask n k M i h =
-    ap (λ (b : Bool). eqb (onesIn n M) k && b) (eqb-same (gather n M i) 0 (bitAnd i M) 0 (gather-clear n M i h .0) (gather-clear n M i h .1))
 
 -- ---- one input more, from the lowest
 

@@ -2,7 +2,7 @@
 -- (`join-gather`, `gather-join`, `gather-outside-join`). So a sum over all terms is a sum over blocks of sums over places (`sums`).
 use mathlib.Core.Path.{_≡_, refl, sym, ap, ap₂, _∙_}
 use Prim.Native.Nat.{ℕ, zero, suc, _+_, _-_, _*_, _/_, _%_, _^_, _≤_, _<_}
-use native.Mathlib.Nat.{zero-add, add-zero, div-add-mod'}
+use native.Mathlib.Nat.{zero-add, add-zero, add-comm, div-add-mod', mul-assoc, pow-suc}
 use native.Mathlib.Omega.{arith}
 use native.Mathlib.Numerals.{one-add}
 use lib.Count.{onesIn}
@@ -109,6 +109,31 @@ pub spread-lt : (n M y : ℕ) → spread n M y < 2 ^ n
 unfolding spread
 spread-lt zero M y = omega arith
 spread-lt (suc n) M y = omega (arith, spread-lt n (M / 2) (dropDigit (M % 2) y), lowDigit-lt (M % 2) y)
+
+-- ---- bits past those of the mask
+
+dropDigit-past : (m o r q : ℕ) → m < 2 → dropDigit m (r + q * 2 ^ (m + o)) ≡ dropDigit m r + q * 2 ^ o
+unfolding dropDigit
+dropDigit-past zero o r q h = rw zero-add
+dropDigit-past (suc zero) o r q h = rw (one-add, pow-suc, ← (mul-assoc q (2 ^ o) 2)) (omega arith)
+dropDigit-past (suc (suc m)) o r q h = absurd (omega arith)
+
+lowDigit-past : (m o r q : ℕ) → m < 2 → lowDigit m (r + q * 2 ^ (m + o)) ≡ lowDigit m r
+unfolding lowDigit
+lowDigit-past zero o r q h = refl
+lowDigit-past (suc zero) o r q h = rw (one-add, pow-suc, ← (mul-assoc q (2 ^ o) 2)) (omega arith)
+lowDigit-past (suc (suc m)) o r q h = absurd (omega arith)
+
+spread-past : (n M r q : ℕ) → spread n M (r + q * 2 ^ onesIn n M) ≡ spread n M r
+unfolding spread onesIn
+spread-past zero M r q = refl
+spread-past (suc n) M r q =
+    rw (dropDigit-past (M % 2) (onesIn n (M / 2)) r q (low-lt M), lowDigit-past (M % 2) (onesIn n (M / 2)) r q (low-lt M), spread-past n (M / 2) (dropDigit (M % 2) r) q)
+
+-- a mask of k inputs takes the k lowest bits
+pub spread-mod : (n k M y : ℕ) → onesIn n M ≡ k → spread n M (y % 2 ^ k) ≡ spread n M y
+spread-mod n k M y e =
+    rw (← e) (sym (spread-past n M (y % 2 ^ onesIn n M) (y / 2 ^ onesIn n M)) ∙ ap (spread n M) (add-comm _ _ ∙ div-add-mod' y (2 ^ onesIn n M)))
 
 -- ---- zero
 

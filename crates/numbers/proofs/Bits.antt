@@ -16,10 +16,6 @@ use Rattle.numbers.proofs.Xor.{low-lt, xor-low}
 
 -- ---- a number by its lowest digit and the rest
 
-pub div-digits : (n q b : ℕ) → b < 2 → (q * 2 + b) / 2 ^ suc n ≡ q / 2 ^ n
-div-digits n q b h =
-    ap (λ (y : ℕ). (q * 2 + b) / y) (pow-suc 2 n ∙ mul-comm (2 ^ n) 2) ∙ sym (div-div-eq-div-mul (q * 2 + b) 2 (2 ^ n)) ∙ ap (λ (y : ℕ). y / 2 ^ n) (digits-div q h)
-
 pub mod-digits : (n q b : ℕ) → b < 2 → (q * 2 + b) % 2 ^ suc n ≡ q % 2 ^ n * 2 + b
 mod-digits n q b h = ap (λ (x : ℕ). (q * 2 + b) % x) (pow-suc 2 n) ∙ mod-mul (q * 2 + b) (pow-pos n) (omega arith) ∙ rw (digits-div q h, digits-mod q h)
 

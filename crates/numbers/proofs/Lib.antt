@@ -6,3 +6,5 @@ pub mod Tables
 pub mod Shifts
 pub mod Sums
 pub mod Pack
+pub mod Words
+pub mod Flips

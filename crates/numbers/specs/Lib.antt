@@ -3,3 +3,4 @@ pub mod Bits
 pub mod Bytes
 pub mod Sums
 pub mod Refusals
+pub mod Words

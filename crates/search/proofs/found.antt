@@ -1,4 +1,4 @@
-pub mod Bytes
-pub mod Places
-pub mod Leader
 pub mod Answer
+pub mod Leader
+pub mod Outputs
+pub mod Places

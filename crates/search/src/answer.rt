@@ -1,77 +1,25 @@
 // The minimising search: it hands up the expansion record of document 01's answer.
 ghost use mathlib.Core.Path.{_≡_};
-ghost use Prim.Native.Nat.{_-_, _<_};
-ghost use lib.ListN.{length};
-ghost use Rattle.numbers.specs.Bytes.{at, tabulate};
-ghost use Rattle.expansions.specs.BlockTable.{blockTable};
-ghost use Rattle.expansions.specs.inner.Charges.{byteCharge};
+ghost use Rattle.numbers.specs.Bytes.{at};
 ghost use Rattle.search.specs.Expansion.{answerExpansion, searchable, searched};
-ghost use Rattle.search.specs.inner.Search.{Limits, Given, Room};
-use crate::charges::byte_charges;
+ghost use Rattle.search.specs.inner.Search.{Limits, Given};
 use crate::expansion::Expansion;
 use crate::found::expansion_of;
 use crate::pairs::first_least;
-use blocks::block_table::block_table;
+use crate::sizes::Sizes;
+use blocks::rows::block_rows;
 use numbers::refusals::judge_sizes;
 use numbers::refusals::within_outputs;
 
-// The answer's record, in lent room for the places, the planes and the block functions.
-fn search_within(
-    entries: &[u8; 2048],
-    charges: &[u32; 256],
-    n: usize,
-    m: usize,
-    k: usize,
-    table: &[u8],
-    places: &mut [u8],
-    planes: &mut [u8],
-    functions: &mut [u8],
-) -> Expansion
-    requires { ⌜ (now entries ≡ blockTable) × (now charges ≡ tabulate 256 byteCharge) ⌝ }
-    requires { ⌜ Limits n m k ⌝ }
-    requires { ⌜ Given n m (now table) ⌝ }
-    requires { ⌜ Room n m k (length (now places)) (length (now planes)) (length (now functions)) ⌝ }
-    ensures { λ e. ⌜ e ≡ answerExpansion n k (at (now (table .entry))) ⌝ }
+// The record of the answer. The number of outputs is not needed: an output that there is not is zero at every point.
+fn search_allowed(sizes: Sizes, table: &[u8]) -> Expansion
+    requires { ⌜ Limits sizes ⌝ }
+    requires { ⌜ Given (sizes .n) (now table) ⌝ }
+    ensures { λ e. ⌜ e ≡ answerExpansion (sizes .n) (sizes .k) (at (now (table .entry))) ⌝ }
 {
-    let leader = first_least(entries, charges, n, m, k, table, places, planes, functions);
-    expansion_of(
-        entries,
-        charges,
-        n,
-        m,
-        k,
-        table,
-        places,
-        planes,
-        functions,
-        leader,
-    )
-}
-
-// The record of the answer, in room of its own.
-fn search_allowed(n: usize, m: usize, k: usize, table: &[u8]) -> Expansion
-    requires { ⌜ Limits n m k ⌝ }
-    requires { ⌜ Given n m (now table) ⌝ }
-    ensures { λ e. ⌜ e ≡ answerExpansion n k (at (now (table .entry))) ⌝ }
-{
-    let entries = block_table();
-    let charges = byte_charges();
-    let mut places = [0u8; 2048];
-    let mut planes = [0u8; 2048];
-    let mut functions = [0u8; 2048];
-    let rows: usize = 8 << (n - k);
-    let used = m << (n - k);
-    search_within(
-        &entries,
-        &charges,
-        n,
-        m,
-        k,
-        table,
-        &mut places[..rows],
-        &mut planes[..used],
-        &mut functions[..used],
-    )
+    let rows = block_rows();
+    let leader = first_least(&rows, sizes, table);
+    expansion_of(&rows, sizes, table, leader)
 }
 
 // Whether n, m and k are none that document 01 refuses and the bytes are a table of n inputs and m outputs.
@@ -94,7 +42,7 @@ pub fn find_answer(n: usize, m: usize, k: usize, table: &[u8]) -> Expansion
     ensures { λ e. ⌜ e ≡ searched n m k (now (table .entry)) ⌝ }
 {
     if allowed(n, m, k, table) {
-        return search_allowed(n, m, k, table);
+        return search_allowed(Sizes { n, k }, table);
     }
     Expansion::empty(k)
 }

@@ -1,45 +1,23 @@
-// What the terms of a block are charged, one number for products, then literals: 4096 for each product and 1 for each literal. The main
-// property: entry u of `byte_charges` is the charge of the terms that are the bits of u.
+// What a block costs, one number for products, then literals: 4096 for each product and 1 for each literal. The eight polarities of a block
+// are charged side by side in one word, term by term. The main property: `cheapest_block` hands up the first least polarity of a block.
 ghost use mathlib.Core.Path.{_≡_};
-ghost use Prim.Native.Nat.{_*_, _^_, _≤_, _<_};
-ghost use lib.Bits.{bitOr};
+ghost use Prim.Native.Nat.{_+_, _*_, _≤_, _<_};
 ghost use lib.Count.{ones};
 ghost use lib.ListN.{length};
-ghost use Rattle.numbers.specs.Bytes.{at, tabulate};
-ghost use Rattle.expansions.specs.BlockTable.{entry, blockTable};
-ghost use Rattle.expansions.specs.inner.Charges.{byteCharge};
-ghost use Rattle.search.specs.inner.Search.{usedAt, usedCharge, IsCheapest};
-use crate::points::ones_in;
+ghost use Rattle.numbers.specs.Bytes.{at};
+ghost use Rattle.numbers.specs.Words.{word, byte};
+ghost use Rattle.expansions.specs.BlockTable.{blockRows};
+ghost use Rattle.expansions.specs.inner.Charges.{smallSum, usedCharge};
+ghost use Rattle.search.specs.inner.Lanes.{usedAt};
+ghost use Rattle.search.specs.inner.Search.{IsLeastSum, IsCheapest};
 
 // The literal count of each of the eight terms.
 const LITERALS: [u8; 8] = [0, 1, 1, 2, 1, 2, 2, 3];
 
-// The charge of the terms below 8 that are bits of u.
-fn byte_charge(u: usize) -> u32
-    ensures { λ r. ⌜ r ≡ byteCharge u ⌝ }
-{
-    let mut charge: u32 = 0;
-    let mut t: usize = 0;
-    while t < 8 {
-        let present = ((u >> t) % 2) as u32;
-        charge += present * (4096 + LITERALS[t] as u32);
-        t += 1;
-    }
-    charge
-}
-
-// The charge of each byte of terms, without the literals outside the block. It takes nothing and refuses nothing; the search lends the
-// array down, as it does the block table.
-pub fn byte_charges() -> [u32; 256]
-    ensures { λ r. ⌜ r ≡ tabulate 256 byteCharge ⌝ }
-{
-    let mut charges = [0u32; 256];
-    let mut u: usize = 0;
-    while u < 256 {
-        charges[u] = byte_charge(u);
-        u += 1;
-    }
-    charges
+// The least of the small sums of a block, and the first polarity that has it.
+pub struct LeastSum {
+    pub sum: u32,
+    pub polarity: u8,
 }
 
 // The first least polarity of a block, and what the block costs under it.
@@ -48,72 +26,86 @@ pub struct Cheapest {
     pub polarity: u8,
 }
 
-// Adds the terms of one more output, whose block function is g, to those that some output has, for each of the eight polarities.
-fn add_output(entries: &[u8; 2048], g: u8, used: &mut [u8; 8])
-    requires { ⌜ (now entries ≡ blockTable) × (length (now used) ≡ 8) ⌝ }
-    ensures { λ _. ⌜ now (used .exit) ≡ tabulate 8 (λ φ. bitOr (at (now (used .entry)) φ) (entry g φ)) ⌝ }
+// A byte as a word.
+fn wide(x: u8) -> u64
+    ensures { λ r. ⌜ (r ≡ x) × (r < 256) ⌝ }
 {
-    let row = g as usize * 8;
-    let mut phi: usize = 0;
-    while phi < 8 {
-        used[phi] = used[phi] | entries[row + phi];
-        phi += 1;
-    }
+    x as u64
 }
 
-// The terms that some output has in block j, for each of the eight polarities, from the block functions.
-pub fn used_terms(entries: &[u8; 2048], m: usize, r: usize, functions: &[u8], j: usize) -> [u8; 8]
-    requires { ⌜ (now entries ≡ blockTable) × (m ≤ 8) × (r ≤ 8) × (j < 2 ^ r) × (length (now functions) ≡ m * 2 ^ r) ⌝ }
-    ensures { λ u. ⌜ u ≡ tabulate 8 (usedAt m r (at (now (functions .entry))) j) ⌝ }
+// The terms that some output has in block j, as the bits of a byte for each of the eight polarities, from the block functions.
+fn used_terms(rows: &[u64; 256], lanes: &[u8], j: usize) -> u64
+    requires { ⌜ (now rows ≡ blockRows) × (j < 256) × (j * 8 + 8 ≤ length (now lanes)) ⌝ }
+    ensures { λ u. ⌜ u ≡ word 8 (usedAt (at (now (lanes .entry))) j) ⌝ }
 {
-    let mut used = [0u8; 8];
+    let mut used: u64 = 0;
     let mut o: usize = 0;
-    while o < m {
-        add_output(entries, functions[(o << r) + j], &mut used);
+    while o < 8 {
+        used = used | rows[lanes[j * 8 + o] as usize];
         o += 1;
     }
     used
 }
 
-// The first least of the 2^k polarities of a block, by the terms used under each; a term has `more` literals outside the mixed set.
-pub fn least_polarity(charges: &[u32; 256], k: usize, more: u32, used: [u8; 8]) -> Cheapest
-    requires { ⌜ (now charges ≡ tabulate 256 byteCharge) × (k ≤ 3) × (more ≤ 8) ⌝ }
-    ensures { λ r. ⌜ IsCheapest k (λ φ. usedCharge more (at used φ)) r ⌝ }
+// The small sum of each of eight bytes of terms, as the bytes of a word: the term's bit in each of the eight, times its weight.
+fn small_sums(used: u64) -> u64
+    ensures { λ r. ⌜ r ≡ word 8 (λ φ. smallSum (byte φ used)) ⌝ }
+{
+    let literals = LITERALS;
+    let mut sums: u64 = 0;
+    let mut t: usize = 0;
+    while t < 8 {
+        sums = sums + ((used >> t) & 0x0101010101010101) * (16 + wide(literals[t]));
+        t += 1;
+    }
+    sums
+}
+
+// The least of the first 2^k bytes of the word, and the first that has it.
+fn least_sum(k: usize, sums: u64) -> LeastSum
+    requires { ⌜ k ≤ 3 ⌝ }
+    ensures { λ r. ⌜ IsLeastSum k sums r ⌝ }
 {
     let count: usize = 1 << k;
-    let mut least = Cheapest {
-        charge: u32::MAX,
+    let mut least = LeastSum {
+        sum: (sums & 255) as u32,
         polarity: 0,
     };
-    let mut phi: usize = 0;
-    while phi < count {
-        let c = charges[used[phi] as usize];
-        let charge = c + more * (c >> 12);
-        if charge < least.charge {
-            least = Cheapest {
-                charge,
-                polarity: (phi % 256) as u8,
+    let mut rest = sums >> 8;
+    let mut left: usize = count - 1;
+    while 0 < left {
+        let sum = (rest & 255) as u32;
+        if sum < least.sum {
+            least = LeastSum {
+                sum,
+                polarity: ((count - left) & 255) as u8,
             };
         }
-        phi += 1;
+        rest = rest >> 8;
+        left -= 1;
     }
     least
 }
 
-// The first least polarity of block j, from the block functions.
-pub fn cheapest_block(
-    entries: &[u8; 2048],
-    charges: &[u32; 256],
-    m: usize,
-    r: usize,
-    k: usize,
-    functions: &[u8],
-    j: usize,
-) -> Cheapest
-    requires { ⌜ (now entries ≡ blockTable) × (now charges ≡ tabulate 256 byteCharge) ⌝ }
-    requires { ⌜ (m ≤ 8) × (r ≤ 8) × (k ≤ 3) × (j < 2 ^ r) × (length (now functions) ≡ m * 2 ^ r) ⌝ }
-    ensures { λ c. ⌜ IsCheapest k (λ φ. usedCharge (ones j) (usedAt m r (at (now (functions .entry))) j φ)) c ⌝ }
+// The literals that each term of block j has outside the mixed set, counted three inputs at a time.
+fn literals_outside(j: usize) -> u32
+    requires { ⌜ j < 256 ⌝ }
+    ensures { λ r. ⌜ r ≡ ones j ⌝ }
 {
-    let used = used_terms(entries, m, r, functions, j);
-    least_polarity(charges, k, ones_in(r, j) as u32, used)
+    let literals = LITERALS;
+    literals[j & 7] as u32 + literals[(j >> 3) & 7] as u32 + literals[(j >> 6) & 7] as u32
+}
+
+// The first least of the 2^k polarities of block j, from the block functions.
+pub fn cheapest_block(rows: &[u64; 256], k: usize, lanes: &[u8], j: usize) -> Cheapest
+    requires { ⌜ (now rows ≡ blockRows) × (k ≤ 3) × (j < 256) × (j * 8 + 8 ≤ length (now lanes)) ⌝ }
+    ensures { λ c. ⌜ IsCheapest k (λ φ. usedCharge (ones j) (usedAt (at (now (lanes .entry))) j φ)) c ⌝ }
+{
+    let used = used_terms(rows, lanes, j);
+    let least = least_sum(k, small_sums(used));
+    let more = literals_outside(j);
+    Cheapest {
+        charge: (least.sum >> 4) * (4096 + more) + (least.sum & 15),
+        polarity: least.polarity,
+    }
 }

@@ -1,18 +1,21 @@
-// The search over the pairs of M and i: every M of k inputs and every i with the bits of M zero, in ascending order of M * 2^n + i.
+// The search over the pairs of M and i: every M of k inputs and every i with the bits of M zero, in ascending order of M * 2^n + i. For one M
+// it counts up over the polarities of the inputs outside M, closed up, and goes from the block functions under one to those under the next.
 // The main property: `first_least` hands up the first pair of least charge, every block having its first least polarity.
 ghost use mathlib.Core.Path.{_≡_};
 ghost use Prim.Native.Nat.{suc, _+_, _-_, _*_, _^_, _<_};
-ghost use lib.Count.{onesIn, ones};
 ghost use lib.ListN.{length};
-ghost use Rattle.numbers.specs.Bytes.{at, tabulate};
-ghost use Rattle.expansions.specs.BlockTable.{blockTable};
-ghost use Rattle.expansions.specs.inner.Charges.{byteCharge};
+ghost use Rattle.numbers.specs.Bytes.{at};
+ghost use Rattle.expansions.specs.BlockTable.{blockRows};
 ghost use Rattle.expansions.specs.Answers.{pairCharge};
-ghost use Rattle.search.specs.inner.Search.{Limits, Given, Room, Tried, usedAt, usedCharge, Leads};
+ghost use Rattle.search.specs.inner.Search.{Limits, Given, MixedSet, chargeFrom, pairOf, ledBy, Leads};
 use crate::charges::cheapest_block;
-use crate::planes::expand_planes;
-use crate::planes::lay_out;
+use crate::lanes::expand_blocks;
+use crate::lanes::next_polarity;
 use crate::points::ones_in;
+use crate::points::outside;
+use crate::points::spread;
+use crate::sizes::Pair;
+use crate::sizes::Sizes;
 
 // The pair that leads, M * 2^n + i, and its charge; before there is one, the charge is above every charge.
 pub struct Leader {
@@ -21,187 +24,109 @@ pub struct Leader {
 }
 
 // What a pair costs, from its block functions: the sum over the blocks of what each costs under its first least polarity.
-pub fn pair_charge(
-    entries: &[u8; 2048],
-    charges: &[u32; 256],
-    n: usize,
-    m: usize,
-    k: usize,
-    functions: &[u8],
-) -> u32
-    requires { ⌜ (now entries ≡ blockTable) × (now charges ≡ tabulate 256 byteCharge) ⌝ }
-    requires { ⌜ Limits n m k ⌝ }
-    requires { ⌜ length (now functions) ≡ m * 2 ^ (n - k) ⌝ }
-    ensures { λ c. ⌜ c ≡ pairCharge n k (λ j φ. usedCharge (ones j) (usedAt m (n - k) (at (now (functions .entry))) j φ)) ⌝ }
+fn pair_charge(rows: &[u64; 256], sizes: Sizes, lanes: &[u8]) -> u32
+    requires { ⌜ now rows ≡ blockRows ⌝ }
+    requires { ⌜ Limits sizes ⌝ }
+    requires { ⌜ length (now lanes) ≡ 8 * 2 ^ (sizes .n - sizes .k) ⌝ }
+    ensures { λ c. ⌜ c ≡ pairCharge (sizes .n) (sizes .k) (chargeFrom (at (now (lanes .entry)))) ⌝ }
 {
-    let r = n - k;
-    let size: usize = 1 << r;
+    let count: usize = 1 << (sizes.n - sizes.k);
     let mut sum: u32 = 0;
     let mut j: usize = 0;
-    while j < size {
-        let least = cheapest_block(entries, charges, m, r, k, functions, j);
+    while j < count {
+        let least = cheapest_block(rows, sizes.k, lanes, j);
         sum += least.charge;
         j += 1;
     }
     sum
 }
 
-// The leader once the pair of `mixed` and `fixed` has been tried, where `mixed` has k inputs; a pair of equal charge does not displace it.
-fn try_fixed(
-    entries: &[u8; 2048],
-    charges: &[u32; 256],
-    n: usize,
-    m: usize,
-    k: usize,
+// The leader once the pair of `mixed` and the closed-up polarity w has been tried, from its block functions.
+fn try_polarity(
+    rows: &[u64; 256],
+    sizes: Sizes,
     mixed: usize,
-    fixed: usize,
-    table: &[u8],
-    planes: &[u8],
-    functions: &mut [u8],
+    w: usize,
+    lanes: &[u8],
     leader: Leader,
 ) -> Leader
-    requires { ⌜ (now entries ≡ blockTable) × (now charges ≡ tabulate 256 byteCharge) ⌝ }
-    requires { ⌜ Limits n m k ⌝ }
-    requires { ⌜ Tried n m k mixed (now table) (now planes) (length (now functions)) ⌝ }
-    requires { ⌜ (fixed < 2 ^ n) × Leads n k (at (now table)) (mixed * 2 ^ n + fixed) leader ⌝ }
-    ensures { λ l. ⌜ Leads n k (at (now (table .entry))) (mixed * 2 ^ n + suc fixed) l ⌝ }
+    requires { ⌜ now rows ≡ blockRows ⌝ }
+    requires { ⌜ Limits sizes ⌝ }
+    requires { ⌜ (mixed < 2 ^ sizes .n) × (length (now lanes) ≡ 8 * 2 ^ (sizes .n - sizes .k)) ⌝ }
+    ensures { λ l. ⌜ l ≡ ledBy (pairCharge (sizes .n) (sizes .k) (chargeFrom (at (now (lanes .entry))))) (pairOf (sizes .n) mixed w) leader ⌝ }
 {
-    if fixed & mixed != 0 {
-        return leader;
-    }
-    expand_planes(n, m, k, mixed, fixed, table, planes, functions);
-    let charge = pair_charge(entries, charges, n, m, k, functions);
+    let charge = pair_charge(rows, sizes, lanes);
     if charge < leader.charge {
+        let fixed = spread(sizes.n, outside(sizes.n, mixed), w);
         return Leader {
             charge,
-            pair: (mixed << n) + fixed,
+            pair: (mixed << sizes.n) + fixed,
         };
     }
     leader
 }
 
-// The leader once every i has been tried with `mixed`, which has k inputs. `places`, `planes` and `functions` are room to work in.
-fn try_mixed(
-    entries: &[u8; 2048],
-    charges: &[u32; 256],
-    n: usize,
-    m: usize,
-    k: usize,
+// The leader once every i has been tried with `mixed`, which has k inputs. `lanes` is room for the block functions.
+fn try_polarities(
+    rows: &[u64; 256],
+    sizes: Sizes,
     mixed: usize,
     table: &[u8],
-    places: &mut [u8],
-    planes: &mut [u8],
-    functions: &mut [u8],
+    lanes: &mut [u8],
     leader: Leader,
 ) -> Leader
-    requires { ⌜ (now entries ≡ blockTable) × (now charges ≡ tabulate 256 byteCharge) ⌝ }
-    requires { ⌜ Limits n m k ⌝ }
-    requires { ⌜ Given n m (now table) ⌝ }
-    requires { ⌜ Room n m k (length (now places)) (length (now planes)) (length (now functions)) ⌝ }
-    requires { ⌜ (mixed < 2 ^ n) × (onesIn n mixed ≡ k) × Leads n k (at (now table)) (mixed * 2 ^ n) leader ⌝ }
-    ensures { λ l. ⌜ Leads n k (at (now (table .entry))) (suc mixed * 2 ^ n) l ⌝ }
+    requires { ⌜ now rows ≡ blockRows ⌝ }
+    requires { ⌜ Limits sizes ⌝ }
+    requires { ⌜ Given (sizes .n) (now table) ⌝ }
+    requires { ⌜ MixedSet sizes mixed × (length (now lanes) ≡ 8 * 2 ^ (sizes .n - sizes .k)) ⌝ }
+    requires { ⌜ Leads (sizes .n) (sizes .k) (at (now table)) (mixed * 2 ^ sizes .n) leader ⌝ }
+    ensures { λ l. ⌜ Leads (sizes .n) (sizes .k) (at (now (table .entry))) (suc mixed * 2 ^ sizes .n) l ⌝ }
 {
-    lay_out(n, m, k, mixed, table, places, planes);
-    let all: usize = 1 << n;
+    expand_blocks(sizes, Pair { mixed, fixed: 0 }, table, lanes);
+    let r = sizes.n - sizes.k;
+    let count: usize = 1 << r;
     let mut led = leader;
-    let mut fixed: usize = 0;
-    while fixed < all {
-        let next = try_fixed(
-            entries,
-            charges,
-            n,
-            m,
-            k,
-            mixed,
-            fixed,
-            table,
-            planes,
-            functions,
-            led,
-        );
+    let mut w: usize = 0;
+    while w < count {
+        let next = try_polarity(rows, sizes, mixed, w, lanes, led);
         led = next;
-        fixed += 1;
+        next_polarity(r, w, lanes);
+        w += 1;
     }
     led
 }
 
 // The leader once every i has been tried with `mixed`, if it has k inputs; one with another number of inputs has no pair.
-fn try_any(
-    entries: &[u8; 2048],
-    charges: &[u32; 256],
-    n: usize,
-    m: usize,
-    k: usize,
-    mixed: usize,
-    table: &[u8],
-    places: &mut [u8],
-    planes: &mut [u8],
-    functions: &mut [u8],
-    leader: Leader,
-) -> Leader
-    requires { ⌜ (now entries ≡ blockTable) × (now charges ≡ tabulate 256 byteCharge) ⌝ }
-    requires { ⌜ Limits n m k ⌝ }
-    requires { ⌜ Given n m (now table) ⌝ }
-    requires { ⌜ Room n m k (length (now places)) (length (now planes)) (length (now functions)) ⌝ }
-    requires { ⌜ (mixed < 2 ^ n) × Leads n k (at (now table)) (mixed * 2 ^ n) leader ⌝ }
-    ensures { λ l. ⌜ Leads n k (at (now (table .entry))) (suc mixed * 2 ^ n) l ⌝ }
+fn try_mixed(rows: &[u64; 256], sizes: Sizes, mixed: usize, table: &[u8], leader: Leader) -> Leader
+    requires { ⌜ now rows ≡ blockRows ⌝ }
+    requires { ⌜ Limits sizes ⌝ }
+    requires { ⌜ Given (sizes .n) (now table) ⌝ }
+    requires { ⌜ (mixed < 2 ^ sizes .n) × Leads (sizes .n) (sizes .k) (at (now table)) (mixed * 2 ^ sizes .n) leader ⌝ }
+    ensures { λ l. ⌜ Leads (sizes .n) (sizes .k) (at (now (table .entry))) (suc mixed * 2 ^ sizes .n) l ⌝ }
 {
-    if ones_in(n, mixed) != k {
+    if ones_in(sizes.n, mixed) != sizes.k {
         return leader;
     }
-    try_mixed(
-        entries,
-        charges,
-        n,
-        m,
-        k,
-        mixed,
-        table,
-        places,
-        planes,
-        functions,
-        leader,
-    )
+    let mut lanes = [0u8; Sizes::ROOM];
+    let all: usize = 8 << (sizes.n - sizes.k);
+    try_polarities(rows, sizes, mixed, table, &mut lanes[..all], leader)
 }
 
 // The first pair of least charge, and its charge.
-pub fn first_least(
-    entries: &[u8; 2048],
-    charges: &[u32; 256],
-    n: usize,
-    m: usize,
-    k: usize,
-    table: &[u8],
-    places: &mut [u8],
-    planes: &mut [u8],
-    functions: &mut [u8],
-) -> Leader
-    requires { ⌜ (now entries ≡ blockTable) × (now charges ≡ tabulate 256 byteCharge) ⌝ }
-    requires { ⌜ Limits n m k ⌝ }
-    requires { ⌜ Given n m (now table) ⌝ }
-    requires { ⌜ Room n m k (length (now places)) (length (now planes)) (length (now functions)) ⌝ }
-    ensures { λ l. ⌜ Leads n k (at (now (table .entry))) (2 ^ n * 2 ^ n) l ⌝ }
+pub fn first_least(rows: &[u64; 256], sizes: Sizes, table: &[u8]) -> Leader
+    requires { ⌜ now rows ≡ blockRows ⌝ }
+    requires { ⌜ Limits sizes ⌝ }
+    requires { ⌜ Given (sizes .n) (now table) ⌝ }
+    ensures { λ l. ⌜ Leads (sizes .n) (sizes .k) (at (now (table .entry))) (2 ^ sizes .n * 2 ^ sizes .n) l ⌝ }
 {
-    let all: usize = 1 << n;
+    let all: usize = 1 << sizes.n;
     let mut led = Leader {
         charge: u32::MAX,
         pair: 0,
     };
     let mut mixed: usize = 0;
     while mixed < all {
-        let next = try_any(
-            entries,
-            charges,
-            n,
-            m,
-            k,
-            mixed,
-            table,
-            places,
-            planes,
-            functions,
-            led,
-        );
+        let next = try_mixed(rows, sizes, mixed, table, led);
         led = next;
         mixed += 1;
     }

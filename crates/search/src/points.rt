@@ -1,4 +1,4 @@
-// Bits in a mask, closed up lowest first, and opened out again: block and place of a number, and the two joined.
+// Bits in a mask, closed up lowest first, and opened out again: block and place of a number, and the way back.
 // Each function walks the inputs from the lowest; `used` is the number of inputs of the mask passed so far.
 ghost use mathlib.Core.Path.{_≡_};
 ghost use Prim.Native.Nat.{_≤_, _<_, _^_};
@@ -62,12 +62,4 @@ pub fn outside(n: usize, mixed: usize) -> usize
 {
     let all: usize = 1 << n;
     all - 1 - mixed
-}
-
-// The point with the bits of the block q outside the mixed set and those of the place s in it.
-pub fn join(n: usize, mixed: usize, q: usize, s: usize) -> usize
-    requires { ⌜ (n ≤ 8) × (mixed < 2 ^ n) ⌝ }
-    ensures { λ r. ⌜ r ≡ Split.join n mixed q s ⌝ }
-{
-    spread(n, outside(n, mixed), q) + spread(n, mixed, s)
 }

@@ -1,52 +1,46 @@
 -- What the calls promise, from the transforms' bytes: `forward-done`, `backward-done`, and the refusals.
 use mathlib.Core.Path.{_≡_, refl, sym, ap, _∙_}
-use mathlib.Core.Bool.{true}
 use mathlib.Core.List.{List}
-use Prim.Native.Nat.{ℕ, zero, suc, _^_, _<_}
-use native.Mathlib.Nat.{mod-self, mod-eq-of-lt, div-eq-of-lt, zero-mul, zero-add}
+use Prim.Native.Nat.{ℕ, zero, suc, _+_, _^_, _<_}
+use native.Mathlib.Nat.{zero-add}
 use native.Mathlib.Omega.{arith}
-use borrow.Author.Tests.{le-leb, lt-ltb, eq-eqb}
 use lib.ListN.{length}
 use lib.Pow.{pow-pos}
 use Rattle.numbers.specs.Bytes.{at, tabulate}
 use Rattle.algebra.specs.Terms.{value}
 use Rattle.algebra.specs.Coefficients.{coefficient}
-use Rattle.algebra.specs.Transform.{functionAt, fits, coefficientBytes, valueBytes}
+use Rattle.algebra.specs.Transform.{coefficientBytes, valueBytes}
 use Rattle.algebra.specs.Calls.{transformRefusal, transformed, Forward, Backward}
 use Rattle.algebra.specs.declared.calls.Transformed.the-variants.{Done, Refused}
 use Rattle.numbers.proofs.Bytes.{at-tabulate, tabulate-ext}
 use Rattle.algebra.proofs.Value.{value-ext}
 use Rattle.algebra.proofs.Coefficients.{value-coefficient, coefficient-value, coefficient-ext, coefficient-lt, value-lt}
+use Rattle.algebra.proofs.Lanes.{Fitting, fits-fitting, lanes-one}
 use Rattle.algebra.proofs.calls.Judging.{Accepted, refusal-none}
 use Rattle.numbers.proofs.refusals.Outputs.{below-at}
 use Rattle.numbers.proofs.refusals.Judging.{kept}
 
 -- ---- the transforms' bytes, where the call is carried out
 
-accepted-fits : (n m w : ℕ) (given before : List ℕ) → Accepted n m w given (length before) → fits n w (length given) (length before) ≡ true
-unfolding fits
+accepted-fits : (n m w : ℕ) (given before : List ℕ) → Accepted n m w given (length before) → Fitting 0 n w (length given) (length before)
 accepted-fits n m w given before a =
-    rw (le-leb n 8 (a .sizes .inputs .1), lt-ltb w (2 ^ n) (a .polarity), eq-eqb (length given) (length before) (a .given-long ∙ sym (a .lent-long)), a .lent-long, mod-self (2 ^ n))
+    let one : 2 ^ n ≡ 2 ^ (0 + n) = ap (λ (x : ℕ). 2 ^ x) (sym (zero-add n)) in
+    record { lows = omega arith; inputs = a .sizes .inputs .1; polarity = a .polarity; given-long = a .given-long ∙ one; lent-long = a .lent-long ∙ one }
 
--- the one function that the bytes hold
-function-one : (n : ℕ) (bytes : List ℕ) (t q : ℕ) → t < 2 ^ n → functionAt n bytes t q ≡ at bytes q
-function-one n bytes t q h = ap (at bytes) (rw (div-eq-of-lt h, zero-mul) (zero-add q))
-
-coefficients-one : (n m w : ℕ) (table before : List ℕ) → Accepted n m w table (length before) → coefficientBytes n w table before ≡ tabulate (2 ^ n) (coefficient n w (at table))
+coefficients-one : (n m w : ℕ) (table before : List ℕ) → Accepted n m w table (length before) → coefficientBytes 0 n w table before ≡ tabulate (2 ^ n) (coefficient n w (at table))
 unfolding coefficientBytes
 coefficients-one n m w table before a =
-    rw (accepted-fits n m w table before a, a .lent-long)
-    (tabulate-ext (2 ^ n) _ _ (λ t h.
-    ap (coefficient n w (functionAt n table t)) (mod-eq-of-lt h) ∙ coefficient-ext n w _ _ (a .polarity) (λ q l. function-one n table t q h) t))
+    rw (fits-fitting 0 n w (length table) (length before) (accepted-fits n m w table before a), a .lent-long)
+    (tabulate-ext (2 ^ n) _ _ (λ t h. lanes-one (coefficient n w) (at table) t))
 
 values-one : (n m w : ℕ) (coefficients before : List ℕ) → Accepted n m w coefficients (length before)
     → valueBytes n w coefficients before ≡ tabulate (2 ^ n) (value n (λ t. w) (at coefficients))
 unfolding valueBytes
-values-one n m w coefficients before a = rw (accepted-fits n m w coefficients before a, eq-eqb (length before) (2 ^ n) (a .lent-long))
+values-one n m w coefficients before a = rw (fits-fitting 0 n w (length coefficients) (length before) (accepted-fits n m w coefficients before a))
 
 -- ---- carried out
 
-pub forward-done : (n m w : ℕ) (table before after : List ℕ) → transformRefusal n m w table (length before) ≡ 0 → after ≡ coefficientBytes n w table before
+pub forward-done : (n m w : ℕ) (table before after : List ℕ) → transformRefusal n m w table (length before) ≡ 0 → after ≡ coefficientBytes 0 n w table before
     → Forward n m w table before after Done
 unfolding transformed
 forward-done n m w table before after e b =

@@ -1,96 +1,113 @@
--- The two total transforms: the bytes moved by w and joined are the coefficients (`coefficients-filled`), joined and then moved are the
--- values (`values-filled`).
+-- The total transforms: the bytes moved by w and joined are the coefficients (`coefficients-filled`), joined and then moved are the values
+-- (`values-filled`), and with the inputs in which two polarities differ turned over they are the coefficients under the other
+-- (`changed-filled`).
 use mathlib.Core.Path.{_≡_, refl, sym, ap, _∙_}
-use mathlib.Core.Bool.{true, _&&_}
+use mathlib.Core.Bool.{true}
 use mathlib.Core.List.{List}
-use Prim.Native.Nat.{ℕ, _+_, _*_, _/_, _%_, _^_, _≤_, _<_}
-use native.Mathlib.Nat.{div-add-mod', mod-lt, mod-eq-of-lt, div-eq-of-lt, zero-mul, zero-add, mul-mod-left}
+use Prim.Native.Nat.{ℕ, suc, _+_, _*_, _/_, _%_, _^_, _≤_, _<_}
+use native.Mathlib.Nat.{div-add-mod', mod-lt, mod-self, mod-eq-of-lt, zero-add}
 use native.Mathlib.Omega.{arith}
-use lib.Dec.{T, leb, ltb, eqb, leb→le, ltb→lt, eqb→eq}
-use lib.Pow.{pow-pos, pow-mono}
+use borrow.Author.Tests.{lt-ltb}
+use lib.Pow.{pow-pos, pow-mono, shl-lt, shl-exact}
 use lib.ListN.{length}
-use lib.Bits.{bitXor, xor-lt, xor-block, xor-zero-r}
+use lib.Bits.{bitXor, xor-lt}
+use Rattle.numbers.specs.Bits.{bit}
 use Rattle.numbers.specs.Bytes.{at, tabulate}
+use Rattle.numbers.proofs.Bytes.{length-tabulate, at-tabulate, tabulate-ext}
+use Rattle.numbers.proofs.Flips.{xor-above}
+use Rattle.numbers.proofs.Xor.{xor-cancel-l}
 use Rattle.algebra.specs.Terms.{value}
 use Rattle.algebra.specs.Coefficients.{xorInside, coefficient}
-use Rattle.algebra.specs.Transform.{functionAt, fits, coefficientBytes}
-use Rattle.numbers.proofs.Tests.{and-left, and-right}
+use Rattle.algebra.specs.Transform.{lane, inLanes, fits, coefficientBytes, changedBytes}
+use Rattle.algebra.specs.inner.Steps.{halfStep, turnedWhere, allSteps}
 use Rattle.algebra.proofs.Inside.{inside-ext}
-use Rattle.algebra.proofs.Coefficients.{value-inside}
-use Rattle.numbers.proofs.Bytes.{length-tabulate, at-tabulate, tabulate-ext}
-use Rattle.algebra.proofs.transform.Steps.{multiple-room}
-use Rattle.algebra.proofs.transform.Joining.{multiple-down}
+use Rattle.algebra.proofs.Coefficients.{value-inside, coefficient-value}
+use Rattle.algebra.proofs.HalfSteps.{half-lane, where-lane, where-below, steps-lane, steps-below}
+use Rattle.algebra.proofs.Turned.{steps-inside, coefficient-changed}
+use Rattle.algebra.proofs.Lanes.{Fitting, fits-true, lanes-one, place-lt, point-lt}
+use Rattle.algebra.proofs.transform.Halves.{multiple-down}
 
--- ---- moving by w stays within a function
+-- ---- in lanes
 
-pub move-within : (n w b q : ℕ) → w < 2 ^ n → q < 2 ^ n → bitXor (b * 2 ^ n + q) w ≡ b * 2 ^ n + bitXor q w
-move-within n w b q hw hq =
-    ap (bitXor (b * 2 ^ n + q)) (sym (omega (arith, zero-mul (2 ^ n)))) ∙ xor-block n b 0 q w hq hw ∙ ap (λ (x : ℕ). x * 2 ^ n + bitXor q w) (xor-zero-r b)
+-- steps that go through each lane by itself
+steps-lanes : (k n : ℕ) (all each : ℕ → (ℕ → ℕ) → ℕ → ℕ) (g : ℕ → ℕ) (x : ℕ)
+    → ((s : ℕ) (f : ℕ → ℕ) (q o : ℕ) → o < 2 ^ k → all s f (q * 2 ^ k + o) ≡ each s (lane k f o) q) → allSteps all n g x ≡ inLanes k (allSteps each n) g x
+unfolding inLanes
+steps-lanes k n all each g x e =
+    ap (allSteps all n g) (sym (div-add-mod' x (2 ^ k))) ∙ steps-lane k all each (x % 2 ^ k) (λ s f q. e s f q (x % 2 ^ k) (mod-lt x (pow-pos k))) n g (x / 2 ^ k)
 
--- a function that begins below the end ends at or below it
-function-room : (n len t q : ℕ) → len % 2 ^ n ≡ 0 → t < len → q < 2 ^ n → t / 2 ^ n * 2 ^ n + q < len
-function-room n len t q e h l =
-    let d = 2 ^ n in
-    let a : t / d * d % d ≡ 0 = mul-mod-left (t / d) d in
-    omega (arith, div-add-mod' t (2 ^ n), multiple-room d (t / d * d) len a e (omega (arith, div-add-mod' t d)))
+joined-lanes : (k n : ℕ) (g : ℕ → ℕ) (x : ℕ) → x < 2 ^ (k + n) → allSteps (λ s. halfStep 1 (k + s)) n g x ≡ inLanes k (xorInside n) g x
+unfolding inLanes
+joined-lanes k n g x h =
+    steps-lanes k n (λ s. halfStep 1 (k + s)) (halfStep 1) g x (λ s f q o l. half-lane 1 k s f q o l)
+    ∙ steps-inside n (lane k g (x % 2 ^ k)) (x / 2 ^ k) (point-lt k n x h)
 
-pub move-room : (n w len : ℕ) → w < 2 ^ n → len % 2 ^ n ≡ 0 → (q : ℕ) → q < len → bitXor q w < len
-move-room n w len hw e q h =
-    let m : bitXor q w ≡ q / 2 ^ n * 2 ^ n + bitXor (q % 2 ^ n) w =
-    ap (λ (x : ℕ). bitXor x w) (sym (div-add-mod' q (2 ^ n))) ∙ move-within n w (q / 2 ^ n) (q % 2 ^ n) hw (mod-lt q (pow-pos n)) in
-    rw m (function-room n len q (bitXor (q % 2 ^ n) w) e h (xor-lt n (q % 2 ^ n) w (mod-lt q (pow-pos n)) hw))
+-- ---- moved
 
--- ---- the arguments fit
+-- `w << k` moves by w within each lane
+moved-by : (k n w : ℕ) → k ≤ 8 → n ≤ 8 → w < 2 ^ n → w * 2 ^ k % 2 ^ 64 ≡ w * 2 ^ k
+moved-by k n w hk hn hw = shl-exact n k 64 hw (omega arith)
 
-pub record Fitting (n w given lent : ℕ) : Type 0 where
-  pub inputs : n ≤ 8
-  pub polarity : w < 2 ^ n
-  pub same : given ≡ lent
-  pub whole : lent % 2 ^ n ≡ 0
+pub move-room : (k n w given lent : ℕ) → Fitting k n w given lent → (q : ℕ) → q < lent → bitXor q (w * 2 ^ k % 2 ^ 64) < given
+move-room k n w given lent f q h =
+    let e : n + k ≡ k + n = omega arith in
+    let l : w * 2 ^ k < 2 ^ (k + n) = rw e at (shl-lt n k (f .polarity)) in
+    rw (f .given-long, moved-by k n w (f .lows) (f .inputs) (f .polarity)) (xor-lt (k + n) q (w * 2 ^ k) (omega (arith, f .lent-long)) l)
 
-pub fits-true : (n w given lent : ℕ) → fits n w given lent ≡ true → Fitting n w given lent
-unfolding fits
-fits-true n w given lent e =
-    let a : T (leb n 8 && (ltb w (2 ^ n) && (eqb given lent && eqb (lent % 2 ^ n) 0))) = rw e tt in
-    let b = and-right (leb n 8) (ltb w (2 ^ n) && (eqb given lent && eqb (lent % 2 ^ n) 0)) a in
-    let d = and-right (ltb w (2 ^ n)) (eqb given lent && eqb (lent % 2 ^ n) 0) b in
-    record {
-      inputs = leb→le n 8 (and-left (leb n 8) (ltb w (2 ^ n) && (eqb given lent && eqb (lent % 2 ^ n) 0)) a);
-      polarity = ltb→lt w (2 ^ n) (and-left (ltb w (2 ^ n)) (eqb given lent && eqb (lent % 2 ^ n) 0) b);
-      same = eqb→eq given lent (and-left (eqb given lent) (eqb (lent % 2 ^ n) 0) d);
-      whole = eqb→eq (lent % 2 ^ n) 0 (and-right (eqb given lent) (eqb (lent % 2 ^ n) 0) d);
-    }
+-- the bytes are a whole number of functions for steps from any input up to k on
+pub steps-ready : (k n w given lent j len : ℕ) → Fitting k n w given lent → j ≤ k → len ≡ lent → (j ≤ 8) × (n ≤ 8) × (len % 2 ^ (j + n) ≡ 0)
+steps-ready k n w given lent j len f h e =
+    (omega (arith, f .lows), f .inputs, multiple-down (k + n) (j + n) len (omega arith) (rw (e ∙ f .lent-long) (mod-self (2 ^ (k + n)))))
 
 -- ---- the bytes filled
 
-pub coefficients-filled : (n w : ℕ) (tables before moved after : List ℕ) → fits n w (length tables) (length before) ≡ true
-    → moved ≡ tabulate (length before) (λ q. at tables (bitXor q w))
-    → after ≡ tabulate (length moved) (λ t. xorInside n (functionAt n moved t) (t % 2 ^ n)) → after ≡ coefficientBytes n w tables before
-unfolding coefficientBytes coefficient
-coefficients-filled n w tables before moved after e em ea =
-    let f = fits-true n w (length tables) (length before) e in
+pub coefficients-filled : (k n w : ℕ) (tables before moved after : List ℕ) → fits k n w (length tables) (length before) ≡ true
+    → moved ≡ tabulate (length before) (λ q. at tables (bitXor q (w * 2 ^ k % 2 ^ 64)))
+    → after ≡ tabulate (length moved) (allSteps (λ s. halfStep 1 (k + s)) n (at moved)) → after ≡ coefficientBytes k n w tables before
+unfolding coefficientBytes coefficient inLanes
+coefficients-filled k n w tables before moved after e em ea =
+    let f = fits-true k n w (length tables) (length before) e in
     let lm : length moved ≡ length before = ap length em ∙ length-tabulate (length before) _ in
-    rw e (ea ∙ rw lm (tabulate-ext (length before) _ _ (λ t h. inside-ext n _ _ (t % 2 ^ n) (λ q l.
-    ap (λ (x : List ℕ). at x (t / 2 ^ n * 2 ^ n + q)) em
-    ∙ at-tabulate (length before) _ (t / 2 ^ n * 2 ^ n + q) (function-room n (length before) t q (f .whole) h l)
-    ∙ ap (at tables) (move-within n w (t / 2 ^ n) q (f .polarity) l)))))
+    let each : (r o : ℕ) → r < 2 ^ n → o < 2 ^ k → at moved (r * 2 ^ k + o) ≡ at tables (bitXor r w * 2 ^ k + o) =
+    λ r o l m.
+    ap (λ (b : List ℕ). at b (r * 2 ^ k + o)) em
+    ∙ at-tabulate (length before) _ (r * 2 ^ k + o) (omega (arith, f .lent-long, place-lt k n r o l m))
+    ∙ ap (at tables) (ap (bitXor (r * 2 ^ k + o)) (moved-by k n w (f .lows) (f .inputs) (f .polarity)) ∙ xor-above k w r o m) in
+    rw e (ea ∙ rw lm (tabulate-ext (length before) _ _ (λ x h.
+    joined-lanes k n (at moved) x (omega (arith, f .lent-long)) ∙ inside-ext n _ _ (x / 2 ^ k) (λ r l. each r (x % 2 ^ k) l (mod-lt x (pow-pos k))))))
 
 -- one function, joined in an array of 256 and then moved
 pub values-filled : (n w : ℕ) (coefficients joined : List ℕ) → n ≤ 8 → w < 2 ^ n
-    → joined ≡ tabulate (length (tabulate 256 (at coefficients))) (λ t. xorInside n (functionAt n (tabulate 256 (at coefficients)) t) (t % 2 ^ n))
+    → joined ≡ tabulate (length (tabulate 256 (at coefficients))) (allSteps (λ s. halfStep 1 (0 + s)) n (at (tabulate 256 (at coefficients))))
     → tabulate (2 ^ n) (λ q. at joined (bitXor q w)) ≡ tabulate (2 ^ n) (value n (λ t. w) (at coefficients))
 values-filled n w coefficients joined hn hw ej =
     tabulate-ext (2 ^ n) _ _ (λ p h.
     let x = bitXor p w in
     let l : x < 2 ^ n = xor-lt n p w h hw in
     let size-le : 2 ^ n ≤ 256 = pow-mono hn in
-    let z : x / 2 ^ n * 2 ^ n ≡ 0 = rw (div-eq-of-lt l) (zero-mul (2 ^ n)) in
     ap (λ (b : List ℕ). at b x) ej
     ∙ at-tabulate (length (tabulate 256 (at coefficients))) _ x (omega (arith, length-tabulate 256 (at coefficients)))
-    ∙ ap (xorInside n (functionAt n (tabulate 256 (at coefficients)) x)) (mod-eq-of-lt l)
-    ∙ inside-ext n _ (at coefficients) x (λ q k. ap (at (tabulate 256 (at coefficients))) (ap (λ (y : ℕ). y + q) z ∙ zero-add q) ∙ at-tabulate 256 (at coefficients) q (omega arith))
+    ∙ joined-lanes 0 n (at (tabulate 256 (at coefficients))) x (rw (zero-add n) l) ∙ lanes-one (xorInside n) (at (tabulate 256 (at coefficients))) x
+    ∙ inside-ext n _ (at coefficients) x (λ q k. at-tabulate 256 (at coefficients) q (omega arith))
     ∙ sym (value-inside n w (at coefficients) p))
 
--- an array of 256 bytes holds whole functions of up to eight inputs
-pub array-whole : (n : ℕ) → n ≤ 8 → 256 % 2 ^ n ≡ 0
-array-whole n h = multiple-down 8 n 256 h refl
+-- an array of 256 bytes is a whole number of tables of up to eight inputs
+pub array-whole : (n : ℕ) → n ≤ 8 → 256 % 2 ^ (0 + n) ≡ 0
+array-whole n h = rw (zero-add n) (multiple-down 8 n 256 h refl)
+
+pub changed-filled : (k n v w : ℕ) (before after : List ℕ) → fits k n v (length before) (length before) ≡ true → w < 2 ^ n
+    → after ≡ tabulate (length before) (allSteps (λ s. turnedWhere (bit s (bitXor v w)) (k + s)) n (at before)) → after ≡ changedBytes k n v w before
+unfolding changedBytes inLanes
+changed-filled k n v w before after e hw ea =
+    let f = fits-true k n v (length before) (length before) e in
+    let x = bitXor v w in
+    let turn : ℕ → (ℕ → ℕ) → ℕ → ℕ = λ s. turnedWhere (bit s x) s in
+    let each : (c : ℕ → ℕ) (q : ℕ) → q < 2 ^ n → allSteps turn n c q ≡ coefficient n w (value n (λ t. v) c) q =
+    λ c q h.
+    steps-below (2 ^ n) turn n (λ s l. where-below (2 ^ n) (bit s x) s (multiple-down n (suc s) (2 ^ n) l (mod-self (2 ^ n))))
+    c (coefficient n v (value n (λ t. v) c)) (λ t l. sym (coefficient-value n v c t l)) q h
+    ∙ coefficient-changed n v x n (value n (λ t. v) c) q (omega arith)
+    ∙ ap (λ (u : ℕ). coefficient n u (value n (λ t. v) c) q) (ap (bitXor v) (mod-eq-of-lt (xor-lt n v w (f .polarity) hw)) ∙ xor-cancel-l v w) in
+    rw (e, lt-ltb w (2 ^ n) hw) (ea ∙ tabulate-ext (length before) _ _ (λ y h.
+    steps-lanes k n (λ s. turnedWhere (bit s x) (k + s)) turn (at before) y (λ s g q o l. where-lane (bit s x) k s g q o l)
+    ∙ each (lane k (at before) (y % 2 ^ k)) (y / 2 ^ k) (point-lt k n y (omega (arith, f .lent-long)))))

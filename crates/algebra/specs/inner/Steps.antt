@@ -1,30 +1,37 @@
--- What the steps of the transform leave, one input after the other. Cited by the contracts of private functions alone.
+-- What the half steps of the transforms leave, one input after the other. Cited by the contracts of private functions alone.
+use mathlib.Core.Bool.{cond}
 use mathlib.Core.List.{List}
 use mathlib.Core.Path.{_≡_}
-use Prim.Native.Nat.{ℕ, zero, suc, _+_, _-_, _^_, _≤_, _<_}
+use Prim.Native.Nat.{ℕ, zero, suc, _+_, _^_, _≤_, _<_}
 use lib.Bits.{bitXor}
+use lib.Dec.{eqb}
 use lib.ListN.{length}
 use Rattle.numbers.specs.Bits.{bit}
 use Rattle.numbers.specs.Bytes.{at}
 
--- what the step for one input leaves where its digit is d, from the byte there and the one that differs in that input only
-unfoldable pub joined : ℕ → ℕ → ℕ → ℕ
-joined zero byte other = byte
-joined (suc d) byte other = bitXor byte other
+-- The half step for input s: each place where the input is d takes up the byte of the place that differs in that input only. Where d is 1
+-- it is a step of the transform, where d is 0 it turns the input of the polarity over.
+unfoldable pub halfStep : ℕ → ℕ → (ℕ → ℕ) → ℕ → ℕ
+halfStep d s g t = cond (eqb (bit s t) d) (bitXor (g t) (g (bitXor t (2 ^ s)))) (g t)
 
--- the first q bytes from base + size on, each joined with the byte `size` places before it, and every other byte as it was
-pub record RunsJoined (base size q : ℕ) (before after : List ℕ) : Type 0 where
+-- the half step that turns the input s of the polarity over, where the digit is 1, and none where it is 0
+unfoldable pub turnedWhere : ℕ → ℕ → (ℕ → ℕ) → ℕ → ℕ
+turnedWhere zero s g = g
+turnedWhere (suc d) s g = halfStep 0 s g
+
+-- the steps for the inputs 0 to n - 1, one after the other
+unfoldable pub allSteps : (ℕ → (ℕ → ℕ) → ℕ → ℕ) → ℕ → (ℕ → ℕ) → ℕ → ℕ
+allSteps step zero g = g
+allSteps step (suc n) g = step n (allSteps step n g)
+
+-- the first N bytes from `to` on, each joined with the byte as far from `from`, and every other byte as it was
+pub record RunJoined (to from N : ℕ) (before after : List ℕ) : Type 0 where
   pub long : length after ≡ length before
-  pub below : (t : ℕ) → t < base + size → at after t ≡ at before t
-  pub upper : (t : ℕ) → base + size ≤ t → t < base + size + q → at after t ≡ bitXor (at before t) (at before (t - size))
-  pub above : (t : ℕ) → base + size + q ≤ t → at after t ≡ at before t
+  pub below : (x : ℕ) → x < to → at after x ≡ at before x
+  pub within : (i : ℕ) → i < N → at after (to + i) ≡ bitXor (at before (to + i)) (at before (from + i))
+  pub above : (x : ℕ) → to + N ≤ x → at after x ≡ at before x
 
--- the step for input s
-unfoldable pub stepped : ℕ → (ℕ → ℕ) → ℕ → ℕ
-stepped s g t = joined (bit s t) (g t) (g (t - 2 ^ s))
-
--- the step for input s at each of the first N places, and every other byte as it was
-pub record SteppedTo (s N : ℕ) (before after : List ℕ) : Type 0 where
-  pub long : length after ≡ length before
-  pub done : (t : ℕ) → t < N → at after t ≡ stepped s (at before) t
-  pub kept : (t : ℕ) → N ≤ t → at after t ≡ at before t
+-- runs of N bytes from a and from b on have no byte in common
+pub data Apart (a b N : ℕ) : Type 0 where
+  ahead : a + N ≤ b → Apart a b N
+  behind : b + N ≤ a → Apart a b N

@@ -1,6 +1,7 @@
 -- What the terms of one block are charged, by their bits in a byte. Cited by the contracts of private functions alone.
 use mathlib.Core.List.{List, [], _∷_}
-use Prim.Native.Nat.{ℕ, _*_}
+use Prim.Native.Nat.{ℕ, _+_, _*_, _/_, _%_}
+use lib.Count.{ones}
 use Rattle.numbers.specs.Bytes.{at}
 use Rattle.numbers.specs.Sums.{sumBelow}
 use Rattle.numbers.specs.Bits.{bit}
@@ -17,3 +18,20 @@ literalCount t = at literalCounts t
 -- the charge of the terms of a block that are the bits of the byte u: the weight of each, by its literals in the block
 unfoldable pub byteCharge : ℕ → ℕ
 byteCharge u = sumBelow 8 (λ t. bit t u * weight (literalCount t))
+
+-- what a block costs by the byte u of its terms, where each has `more` literals outside the mixed set
+unfoldable pub usedCharge : ℕ → ℕ → ℕ
+usedCharge more u = byteCharge u + more * ones u
+
+-- the terms below T of the byte u as one small number: 16 for each product and 1 for each literal in the block. It is at most 140, so that
+-- the sums of eight bytes stand side by side in a word
+unfoldable pub sumTo : ℕ → ℕ → ℕ
+sumTo T u = sumBelow T (λ t. bit t u * (16 + literalCount t))
+
+-- the small sum of a byte of terms
+abbrev pub smallSum : ℕ → ℕ
+smallSum u = sumTo 8 u
+
+-- the charge that a small sum stands for, where each term has `more` literals outside the mixed set
+unfoldable pub sumCharge : ℕ → ℕ → ℕ
+sumCharge more s = s / 16 * weight more + s % 16

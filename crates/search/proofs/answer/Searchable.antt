@@ -2,11 +2,12 @@
 use mathlib.Core.Path.{_≡_}
 use mathlib.Core.Bool.{true, _&&_}
 use mathlib.Core.List.{List}
-use Prim.Native.Nat.{ℕ, _^_}
+use Prim.Native.Nat.{ℕ, _^_, _<_}
+use native.Mathlib.Omega.{arith}
 use borrow.Author.Tests.{eq-eqb, eqb-true}
 use lib.Dec.{T, eqb}
 use lib.ListN.{length}
-use lib.Pow.{pow-pos}
+use lib.Pow.{pow-pos, pow-mono}
 use Rattle.numbers.specs.Bytes.{at, allBelow}
 use Rattle.numbers.proofs.Tests.{same-test, both-left, both-right}
 use Rattle.numbers.proofs.refusals.Outputs.{below-at}
@@ -26,14 +27,22 @@ module _ (n m k : ℕ) (table : List ℕ) (e : searchable n m k table ≡ true) 
   unfolding searchable
   bytes = both-right (eqb (sizesRefusal n m k) 0) _ e
 
-  pub allowed-sizes : Limits n m k
-  allowed-sizes =
-      let s = sizes-none n m k (eqb-true (sizesRefusal n m k) 0 sizes) in
-      record { inputs = s .inputs .1; outputs = s .outputs .1; mixed = s .mixed .0; within = s .mixed .1 }
+  sized : Sized n m k
+  sized = sizes-none n m k (eqb-true (sizesRefusal n m k) 0 sizes)
 
-  pub allowed-table : Given n m table
+  pub allowed-sizes : Limits (record { n = n; k = k })
+  allowed-sizes = record { inputs = sized .inputs .1; mixed = sized .mixed .0; within = sized .mixed .1 }
+
+  outputs : (p : ℕ) → at table p < 2 ^ m
+  outputs = below-at (2 ^ m) table (pow-pos m) (rw (both-right (eqb (length table) (2 ^ n)) _ bytes) tt)
+
+  -- m outputs, of which there are at most eight, are a byte
+  pub allowed-table : Given n table
   allowed-table =
-      record { long = eqb-true (length table) (2 ^ n) (both-left _ _ bytes); clean = below-at (2 ^ m) table (pow-pos m) (rw (both-right (eqb (length table) (2 ^ n)) _ bytes) tt) }
+      record {
+        long = eqb-true (length table) (2 ^ n) (both-left _ _ bytes);
+        bytes = λ p. omega (arith, outputs p, pow-mono {i = m} {j = 8} (sized .outputs .1));
+      }
 
 -- ---- to the answer
 

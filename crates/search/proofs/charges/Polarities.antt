@@ -1,123 +1,130 @@
--- The loop over the polarities of a block. It holds the first least of the polarities tried, and what the block costs under it
--- (`PolaritiesTried`); at the end that is the cheapest of all (`tried-all`).
-use mathlib.Core.Path.{_≡_, refl, ap, ap₂, _∙_}
+-- The loop over the bytes of a word of small sums. It holds the first least of the sums tried and what is left of the word (`SumsTried`); at
+-- the end that is the first least of all (`tried-all`), and by it the cheapest polarity of a block (`cheapest-sum`).
+use mathlib.Core.Path.{_≡_, refl, sym, ap, ap₂, _∙_}
 use mathlib.Core.Bool.{true}
-use mathlib.Core.List.{List}
-use Prim.Native.Nat.{ℕ, suc, _+_, _*_, _/_, _%_, _^_, _≤_, _<_}
+use Prim.Native.Nat.{ℕ, suc, _+_, _-_, _*_, _/_, _%_, _^_, _≤_, _<_}
 use native.Mathlib.Nat.{mod-eq-of-lt}
-use native.Mathlib.Numerals.{add-one}
 use native.Mathlib.Omega.{arith}
-use lib.Count.{onesIn, ones-le}
-use lib.Pow.{pow-pos, pow-mono}
-use Rattle.numbers.specs.Bytes.{at, tabulate}
-use Rattle.numbers.proofs.Bytes.{at-tabulate}
+use lib.Bits.{bitAnd, and-mask}
+use lib.Count.{ones}
+use lib.Pow.{pow-pos, pow-mono, shr-shr}
+use Rattle.numbers.specs.Words.{word, byte}
 use Rattle.numbers.proofs.Shifts.{one-shifted}
+use Rattle.numbers.proofs.Words.{word-byte, byte-zero, byte-lt}
 use Rattle.expansions.specs.Answers.{leastPolarity}
-use Rattle.expansions.specs.inner.Charges.{byteCharge}
 use Rattle.expansions.specs.Costs.{weight}
-use Rattle.expansions.specs.Least.{firstLeast}
+use Rattle.expansions.specs.Least.{better, firstLeast}
+use Rattle.expansions.specs.inner.Charges.{smallSum, sumCharge}
 use Rattle.expansions.specs.inner.Leading.{Leading}
-use Rattle.search.specs.inner.Search.{usedAt, usedCharge, IsCheapest}
-use Rattle.search.specs.declared.charges.Cheapest.{Cheapest}
 use Rattle.expansions.proofs.Least.{leading-take, leading-keep, leading-chosen}
-use Rattle.expansions.proofs.Minimal.{polarity-first, leastPolarity-ext}
-use Rattle.numbers.proofs.Pack.{onesIn-ones}
-use Rattle.search.proofs.charges.Used.{chargeFrom, usedCharge-shift, usedCharge-le}
+use Rattle.expansions.proofs.Minimal.{polarity-first}
+use Rattle.expansions.proofs.SmallSums.{smallSum-le, leastPolarity-sums, sumCharge-least}
+use Rattle.search.specs.inner.Lanes.{usedAt}
+use Rattle.search.specs.inner.Search.{IsLeastSum, IsCheapest, chargeFrom}
+use Rattle.search.specs.declared.charges.LeastSum.{LeastSum}
+use Rattle.search.proofs.charges.Used.{usedAt-lt, chargeFrom-le}
 
--- what the block costs under each polarity, by the terms used under it
-abbrev pub costs : ℕ → List ℕ → ℕ → ℕ
-costs more used φ = usedCharge more (at used φ)
+-- the bytes of the word, which are below 256
+abbrev bytes : ℕ → ℕ → ℕ
+bytes sums φ = byte φ sums
 
--- the charge that the loop starts with, above every charge
-abbrev pub top : ℕ
-top = 4294967295
+-- the sum and the polarity of `least` are the first least of the sums of the polarities below phi
+abbrev LeadsBelow : ℕ → LeastSum → ℕ → Type 0
+LeadsBelow sums least phi = Leading 256 (bytes sums) (firstLeast phi (λ φ. true) (bytes sums)) (least .sum) (least .polarity)
 
--- ---- the polarities tried
-
--- the polarities below phi have been tried
-pub record PolaritiesTried (k more : ℕ) (used : List ℕ) (count : ℕ) (least : Cheapest) (phi : ℕ) : Type 0 where
+-- `left` of the polarities are to be tried, and `rest` has their sums
+pub record SumsTried (k sums count : ℕ) (least : LeastSum) (rest left : ℕ) : Type 0 where
   pub few : k ≤ 3
-  pub literals : more ≤ 8
-  pub bytes : (φ : ℕ) → at used φ < 2 ^ 8
   pub all : count ≡ 2 ^ k
-  pub within : phi ≤ count
-  pub best : Leading top (costs more used) (firstLeast phi (λ φ. true) (costs more used)) (least .charge) (least .polarity)
+  pub some : left < count
+  pub shifted : rest ≡ sums / 2 ^ (8 * (count - left))
+  pub best : LeadsBelow sums least (count - left)
 
-pub tried-none : (k more : ℕ) (used : List ℕ) → k ≤ 3 → more ≤ 8 → ((φ : ℕ) → at used φ < 2 ^ 8)
-    → PolaritiesTried k more used (1 * 2 ^ k % 2 ^ 64) (record { charge = top; polarity = 0 }) 0
-unfolding firstLeast
-tried-none k more used hk hm bytes =
-    record { few = hk; literals = hm; bytes = bytes; all = one-shifted k (omega arith); within = omega arith; best = refl }
+pub count-pos : (k : ℕ) → k ≤ 3 → 1 ≤ 1 * 2 ^ k % 2 ^ 64
+count-pos k h = omega (arith, one-shifted k (omega arith), pow-pos k)
 
--- there are at most eight polarities
-pub tried-lt : (k more : ℕ) (used : List ℕ) (count : ℕ) (least : Cheapest) (phi : ℕ) → phi < count → PolaritiesTried k more used count least phi → phi < 8
-tried-lt k more used count least phi h t = let l : 2 ^ k ≤ 2 ^ 3 = pow-mono (t .few) in omega (arith, t .all)
+pub tried-first : (k sums : ℕ) → k ≤ 3
+    → SumsTried k sums (1 * 2 ^ k % 2 ^ 64) (record { sum = bitAnd sums 255; polarity = 0 }) (sums / 256) (1 * 2 ^ k % 2 ^ 64 - 1)
+unfolding firstLeast better
+tried-first k sums h =
+    let one : 1 * 2 ^ k % 2 ^ 64 - (1 * 2 ^ k % 2 ^ 64 - 1) ≡ 1 = omega (arith, count-pos k h) in
+    record {
+      few = h;
+      all = one-shifted k (omega arith);
+      some = omega (arith, count-pos k h);
+      shifted = ap (λ (x : ℕ). sums / 2 ^ (8 * x)) (sym one);
+      best = rw one (refl, and-mask sums 8 ∙ sym (byte-zero sums));
+    }
 
-module _ (charges : List ℕ) (k more : ℕ) (used : List ℕ) (count : ℕ) (least : Cheapest) (phi : ℕ)
-    (table : charges ≡ tabulate 256 byteCharge) (turn : phi < count) (tried : PolaritiesTried k more used count least phi) where
-  -- the cost that the code computes: the byte's charge, and the literals outside the block for each of its terms
-  abbrev cost : ℕ
-  cost = at charges (at used phi) + more * (at charges (at used phi) / 4096)
+module _ (k sums count : ℕ) (least : LeastSum) (rest left : ℕ) (turn : 0 < left) (tried : SumsTried k sums count least rest left) where
+  abbrev phi : ℕ
+  phi = count - left
 
-  cost-is : cost ≡ costs more used phi
-  cost-is =
-      ap (λ (x : ℕ). x + more * (x / 4096))
-      (ap (λ (xs : List ℕ). at xs (at used phi)) table ∙ at-tabulate 256 byteCharge (at used phi) (tried .bytes phi))
-      ∙ usedCharge-shift more (at used phi) (tried .bytes phi)
-
-  pub cost-le : cost ≤ 8 * weight 11
-  cost-le = rw cost-is (usedCharge-le more (at used phi) (tried .literals) (tried .bytes phi))
+  read : bitAnd rest 255 ≡ byte phi sums
+  unfolding byte
+  read = and-mask rest 8 ∙ ap (λ (x : ℕ). x % 256) (tried .shifted)
 
   -- one more polarity, after which `next` is the best
-  tried-more : (next : Cheapest)
-      → Leading top (costs more used) (firstLeast (suc phi) (λ φ. true) (costs more used)) (next .charge) (next .polarity)
-      → PolaritiesTried k more used count next (phi + 1)
+  tried-more : (next : LeastSum) → LeadsBelow sums next (suc phi) → SumsTried k sums count next (rest / 256) (left - 1)
   tried-more next best =
+      let e : suc phi ≡ count - (left - 1) = omega (arith, tried .some) in
+      let bits : 8 * phi + 8 ≡ 8 * (count - (left - 1)) = omega (arith, tried .some) in
       record {
         few = tried .few;
-        literals = tried .literals;
-        bytes = tried .bytes;
         all = tried .all;
-        within = omega arith;
-        best = rw (add-one phi) best;
+        some = omega (arith, tried .some);
+        shifted = ap (λ (x : ℕ). x / 256) (tried .shifted) ∙ shr-shr sums (8 * phi) 8 ∙ ap (λ (x : ℕ). sums / 2 ^ x) bits;
+        best = rw e at best;
       }
 
-  pub tried-take : cost < least .charge → PolaritiesTried k more used count (record { charge = cost; polarity = phi % 256 }) (phi + 1)
+  pub tried-take : bitAnd rest 255 < least .sum
+      → SumsTried k sums count (record { sum = bitAnd rest 255; polarity = bitAnd (count - left) 255 }) (rest / 256) (left - 1)
   tried-take h =
-      let e : phi % 256 ≡ phi = mod-eq-of-lt (omega (arith, tried-lt k more used count least phi turn tried)) in
-      tried-more (record { charge = cost; polarity = phi % 256 })
-      (rw e (leading-take top (λ φ. true) (costs more used) phi (least .charge) (least .polarity) (tried .best) cost refl cost-is h))
+      let eight : 2 ^ k ≤ 2 ^ 3 = pow-mono (tried .few) in
+      let e : bitAnd phi 255 ≡ phi = and-mask phi 8 ∙ mod-eq-of-lt (omega (arith, tried .all)) in
+      tried-more (record { sum = bitAnd rest 255; polarity = bitAnd phi 255 })
+      (rw e (leading-take 256 (λ φ. true) (bytes sums) phi (least .sum) (least .polarity) (tried .best) (bitAnd rest 255) refl read h))
 
-  pub tried-keep : least .charge ≤ cost → PolaritiesTried k more used count least (phi + 1)
-  unfolding weight
+  pub tried-keep : least .sum ≤ bitAnd rest 255 → SumsTried k sums count least (rest / 256) (left - 1)
   tried-keep h =
       tried-more least
-      (leading-keep top (λ φ. true) (costs more used) phi (least .charge) (least .polarity) (tried .best) cost refl cost-is (omega (arith, cost-le)) h)
+      (leading-keep 256 (λ φ. true) (bytes sums) phi (least .sum) (least .polarity) (tried .best) (bitAnd rest 255) refl read
+      (omega (arith, read, byte-lt phi sums)) h)
 
-pub tried-all : (k more : ℕ) (used : List ℕ) (count : ℕ) (least : Cheapest) (phi : ℕ) → count ≤ phi → PolaritiesTried k more used count least phi
-    → IsCheapest k (costs more used) least
+pub tried-all : (k sums count : ℕ) (least : LeastSum) (rest left : ℕ) → left ≤ 0 → SumsTried k sums count least rest left → IsLeastSum k sums least
 unfolding leastPolarity
-tried-all k more used count least phi h t =
-    let e : phi ≡ 2 ^ k = omega (arith, t .all, t .within) in
-    let d = leading-chosen top (λ φ. true) (costs more used) (2 ^ k) (least .charge) (least .polarity) (rw e at (t .best)) 0 (pow-pos k) tt in
-    record { polarity = d .0; charge = d .1 }
+tried-all k sums count least rest left h t =
+    let e : count - left ≡ 2 ^ k = omega (arith, t .all) in
+    let d = leading-chosen 256 (λ φ. true) (bytes sums) (2 ^ k) (least .sum) (least .polarity) (rw e at (t .best)) 0 (pow-pos k) tt in
+    record { polarity = d .0; sum = d .1 }
 
--- ---- the costs from the block functions
+-- ---- the block's cost, from the least sum
 
-pub ones-few : (r j x : ℕ) → r ≤ 8 → j < 2 ^ r → x ≡ onesIn r j → x ≤ 8
-ones-few r j x hr hj e = omega (arith, e, onesIn-ones r j hj, ones-le r j hj)
+module _ (lanes : ℕ → ℕ) (k j used sums more : ℕ) (least : LeastSum) (hk : k ≤ 3) (hj : j < 256) (eu : used ≡ word 8 (usedAt lanes j))
+    (es : sums ≡ word 8 (λ φ. smallSum (byte φ used))) (em : more ≡ ones j) (is : IsLeastSum k sums least) where
+  eight : 2 ^ k ≤ 2 ^ 3
+  eight = pow-mono hk
 
--- the cheapest by the terms used is the cheapest by the block functions
-pub cheapest-used : (m r k j x : ℕ) (functions : ℕ → ℕ) (used : List ℕ) (c : Cheapest) → k ≤ 3 → j < 2 ^ r → x ≡ onesIn r j
-    → used ≡ tabulate 8 (usedAt m r functions j) → IsCheapest k (costs x used) c → IsCheapest k (chargeFrom m r functions j) c
-cheapest-used m r k j x functions used c hk hj more e cheapest =
-    let l = leastPolarity-ext k (costs x used) (chargeFrom m r functions j) same in
-    record {
-      polarity = cheapest .polarity ∙ l;
-      charge = cheapest .charge ∙ same (leastPolarity k (costs x used)) (polarity-first k (costs x used) .below) ∙ ap (chargeFrom m r functions j) l;
-    }
-  where
-    same : (φ : ℕ) → φ < 2 ^ k → costs x used φ ≡ chargeFrom m r functions j φ
-    same φ h =
-        let eight : 2 ^ k ≤ 2 ^ 3 = pow-mono hk in
-        ap₂ usedCharge (more ∙ onesIn-ones r j hj) (ap (λ (xs : List ℕ). at xs φ) e ∙ at-tabulate 8 (usedAt m r functions j) φ (omega arith))
+  sum-of : (φ : ℕ) → φ < 2 ^ k → byte φ sums ≡ smallSum (usedAt lanes j φ)
+  sum-of φ h =
+      ap (byte φ) es ∙ word-byte 8 (λ ψ. smallSum (byte ψ used)) (λ ψ l. omega (arith, smallSum-le (byte ψ used) (byte-lt ψ used))) φ (omega (arith, eight))
+      ∙ ap smallSum (ap (byte φ) eu ∙ word-byte 8 (usedAt lanes j) (λ ψ l. usedAt-lt lanes j ψ l) φ (omega (arith, eight)))
+
+  used-small : (φ : ℕ) → φ < 2 ^ k → usedAt lanes j φ < 2 ^ 8
+  used-small φ h = usedAt-lt lanes j φ (omega (arith, eight))
+
+  -- the charge as code computes it from the sum
+  abbrev cost : ℕ
+  cost = least .sum / 16 * (4096 + more) + bitAnd (least .sum) 15
+
+  cost-is : cost ≡ chargeFrom lanes j (leastPolarity k (chargeFrom lanes j))
+  unfolding sumCharge weight
+  cost-is =
+      ap₂ (λ (x y : ℕ). least .sum / 16 * (4096 + x) + y) em (and-mask (least .sum) 4) ∙ ap (sumCharge (ones j)) (is .sum)
+      ∙ sumCharge-least k (ones j) (bytes sums) (usedAt lanes j) used-small sum-of
+
+  pub cost-le : cost ≤ 8 * weight 11
+  cost-le = rw cost-is (chargeFrom-le lanes j _ hj (omega (arith, eight, polarity-first k (chargeFrom lanes j) .below)))
+
+  pub cheapest-sum : IsCheapest k (chargeFrom lanes j) (record { charge = cost; polarity = least .polarity })
+  cheapest-sum = record { polarity = is .polarity ∙ leastPolarity-sums k (ones j) (bytes sums) (usedAt lanes j) used-small sum-of; charge = cost-is }

@@ -1,69 +1,67 @@
--- The terms that some output has in a block, output by output (`used-none`, `used-next`), from the block functions where they lie
--- (`function-at`), and what such a byte of terms costs: the charge that the code computes (`usedCharge-shift`) and its bound (`usedCharge-le`).
-use mathlib.Core.Path.{_≡_, refl, sym, ap, ap₂, _∙_}
+-- The terms that some output has in a block, output by output under all eight polarities (`used-none`, `used-more`), the literals outside
+-- the mixed set (`literals-outside`), and the bound of what a block costs (`chargeFrom-le`).
+use mathlib.Core.Path.{_≡_, sym, ap, ap₂, _∙_}
 use mathlib.Core.List.{List}
 use Prim.Native.Nat.{ℕ, _+_, _*_, _/_, _%_, _^_, _≤_, _<_}
-use native.Mathlib.Nat.{mul-le-mul}
 use native.Mathlib.Numerals.{add-one}
 use native.Mathlib.Omega.{arith}
-use lib.Arith.{digits-lt}
-use lib.Bits.{bitOr}
-use lib.Count.{ones, ones-le}
-use lib.ListN.{replicate}
-use lib.Pow.{shl-exact}
-use Rattle.numbers.specs.Bytes.{at, tabulate}
+use lib.Bits.{bitAnd, bitOr, and-mask, mask-lt}
+use lib.Count.{ones, ones-cat, ones-le}
+use Rattle.numbers.specs.Bytes.{at}
 use Rattle.numbers.specs.Sums.{foldBelow}
-use Rattle.numbers.proofs.Bytes.{at-tabulate, tabulate-ext}
-use Rattle.expansions.specs.BlockTable.{entry}
-use Rattle.expansions.specs.inner.Charges.{byteCharge}
+use Rattle.numbers.specs.Words.{word}
+use Rattle.numbers.proofs.Bytes.{at-tabulate}
+use Rattle.numbers.proofs.Words.{word-zero, word-or}
+use Rattle.expansions.specs.BlockTable.{entry, row, blockRows}
 use Rattle.expansions.specs.Costs.{weight}
-use Rattle.search.specs.inner.Search.{usedAt, usedCharge}
-use Rattle.expansions.proofs.BlockTable.{entries-lt}
-use Rattle.expansions.proofs.Charges.{byteCharge-le, byteCharge-terms}
+use Rattle.expansions.specs.inner.Charges.{literalCount}
+use Rattle.expansions.proofs.BlockTable.{entry-lt, entries-lt}
+use Rattle.expansions.proofs.Charges.{literalCount-ones, literalCount-le, usedCharge-le}
+use Rattle.search.specs.inner.Lanes.{usedAt}
+use Rattle.search.specs.inner.Search.{chargeFrom}
 
--- ---- where the block functions lie
+-- the terms that some output below o has in block j
+abbrev pub usedBelow : (ℕ → ℕ) → (j o φ : ℕ) → ℕ
+usedBelow lanes j o φ = foldBelow bitOr o (λ p. entry (lanes (j * 8 + p)) φ)
 
--- the place of output o, of block j of 2 ^ r
-pub function-at : (m r o j : ℕ) → m ≤ 8 → r ≤ 8 → o < m → o * 2 ^ r % 2 ^ 64 + j ≡ o * 2 ^ r + j
-function-at m r o j hm hr ho = ap (λ (x : ℕ). x + j) (shl-exact 3 r 64 (omega arith) (omega arith))
+pub used-none : (lanes : ℕ → ℕ) (j : ℕ) → 0 ≡ word 8 (usedBelow lanes j 0)
+unfolding foldBelow
+used-none lanes j = sym (word-zero 8)
 
-pub function-within : (m r o j size : ℕ) → m ≤ 8 → r ≤ 8 → o < m → j < 2 ^ r → size ≡ m * 2 ^ r → o * 2 ^ r % 2 ^ 64 + j < size
-function-within m r o j size hm hr ho hj e = rw (e, function-at m r o j hm hr ho) (digits-lt ho hj)
+-- with the row of output o
+pub used-more : (rows : List ℕ) (lanes : ℕ → ℕ) (j o used : ℕ) → rows ≡ blockRows → lanes (j * 8 + o) < 256 → used ≡ word 8 (usedBelow lanes j o)
+    → bitOr used (at rows (lanes (j * 8 + o))) ≡ word 8 (usedBelow lanes j (o + 1))
+unfolding foldBelow row
+used-more rows lanes j o used table small e =
+    let g = lanes (j * 8 + o) in
+    ap₂ bitOr e (ap (λ (xs : List ℕ). at xs g) table ∙ at-tabulate 256 row g small)
+    ∙ word-or 8 (usedBelow lanes j o) (entry g) (λ φ h. entries-lt o φ (λ p. lanes (j * 8 + p)) h) (λ φ h. entry-lt g φ h)
+    ∙ ap (λ (x : ℕ). word 8 (usedBelow lanes j x)) (sym (add-one o))
 
--- ---- output by output
-
-pub used-none : (r j : ℕ) (functions : ℕ → ℕ) → replicate 8 0 ≡ tabulate 8 (usedAt 0 r functions j)
-unfolding usedAt foldBelow tabulate
-used-none r j functions = refl
-
--- with the output o, whose block function is at x
-pub used-next : (r o j x : ℕ) (functions : ℕ → ℕ) (used : List ℕ) → x ≡ o * 2 ^ r + j → used ≡ tabulate 8 (usedAt o r functions j)
-    → tabulate 8 (λ φ. bitOr (at used φ) (entry (functions x) φ)) ≡ tabulate 8 (usedAt (o + 1) r functions j)
-unfolding usedAt foldBelow
-used-next r o j x functions used place e =
-    tabulate-ext 8 _ _ (λ φ l.
-    ap₂ (λ (u y : ℕ). bitOr u (entry (functions y) φ)) (ap (λ (xs : List ℕ). at xs φ) e ∙ at-tabulate 8 (usedAt o r functions j) φ l) place
-    ∙ ap (λ (y : ℕ). usedAt y r functions j φ) (sym (add-one o)))
-
-pub usedAt-lt : (m r : ℕ) (functions : ℕ → ℕ) (j φ : ℕ) → φ < 8 → usedAt m r functions j φ < 2 ^ 8
+pub used-all : (lanes : ℕ → ℕ) (j o used : ℕ) → o ≤ 8 → 8 ≤ o → used ≡ word 8 (usedBelow lanes j o) → used ≡ word 8 (usedAt lanes j)
 unfolding usedAt
-usedAt-lt m r functions j φ h = entries-lt m φ (λ o. functions (o * 2 ^ r + j)) h
+used-all lanes j o used h l e = let e′ : o ≡ 8 = omega arith in e ∙ ap (λ (x : ℕ). word 8 (usedBelow lanes j x)) e′
 
--- ---- what a byte of terms costs
+pub usedAt-lt : (lanes : ℕ → ℕ) (j φ : ℕ) → φ < 8 → usedAt lanes j φ < 2 ^ 8
+unfolding usedAt
+usedAt-lt lanes j φ h = entries-lt 8 φ (λ o. lanes (j * 8 + o)) h
 
--- the number of terms, read from the charge
-pub usedCharge-shift : (more u : ℕ) → u < 2 ^ 8 → byteCharge u + more * (byteCharge u / 4096) ≡ usedCharge more u
-unfolding usedCharge
-usedCharge-shift more u h = ap (λ (x : ℕ). byteCharge u + more * x) (byteCharge-terms u h)
+pub chargeFrom-le : (lanes : ℕ → ℕ) (j φ : ℕ) → j < 256 → φ < 8 → chargeFrom lanes j φ ≤ 8 * weight 11
+chargeFrom-le lanes j φ hj h = usedCharge-le (ones j) (usedAt lanes j φ) (ones-le 8 j hj) (usedAt-lt lanes j φ h)
 
--- eight terms, each with at most three literals in the block and eight outside it
-pub usedCharge-le : (more u : ℕ) → more ≤ 8 → u < 2 ^ 8 → usedCharge more u ≤ 8 * weight 11
-unfolding usedCharge weight
-usedCharge-le more u hm hu = omega (arith, byteCharge-le u, mul-le-mul hm (ones-le 8 u hu))
+-- ---- literals outside the mixed set
 
--- what block j costs under φ, from the block functions
-abbrev pub chargeFrom : ℕ → ℕ → (ℕ → ℕ) → (j φ : ℕ) → ℕ
-chargeFrom m r functions j φ = usedCharge (ones j) (usedAt m r functions j φ)
+literals-ones : (x : ℕ) → literalCount (bitAnd x 7) ≡ ones (x % 8)
+literals-ones x = literalCount-ones (bitAnd x 7) (mask-lt x 3) ∙ ap ones (and-mask x 3)
 
-pub chargeFrom-le : (m r : ℕ) (functions : ℕ → ℕ) (j φ : ℕ) → r ≤ 8 → j < 2 ^ r → φ < 8 → chargeFrom m r functions j φ ≤ 8 * weight 11
-chargeFrom-le m r functions j φ hr hj h = usedCharge-le (ones j) (usedAt m r functions j φ) (omega (arith, ones-le r j hj)) (usedAt-lt m r functions j φ h)
+pub literals-le : (x : ℕ) → literalCount (bitAnd x 7) ≤ 3
+literals-le x = literalCount-le (bitAnd x 7) (mask-lt x 3)
+
+-- three inputs at a time
+pub literals-outside : (j : ℕ) → j < 256 → literalCount (bitAnd j 7) + literalCount (bitAnd (j / 8) 7) + literalCount (bitAnd (j / 64) 7) ≡ ones j
+literals-outside j h =
+    let top : j / 64 % 8 ≡ j / 8 / 8 = omega arith in
+    omega (arith, literals-ones j, literals-ones (j / 8), literals-ones (j / 64) ∙ ap ones top, ones-three j, ones-three (j / 8))
+  where
+    ones-three : (x : ℕ) → ones x ≡ ones (x / 8) + ones (x % 8)
+    ones-three x = let e : x ≡ x / 8 * 8 + x % 8 = omega arith in ap ones e ∙ ones-cat 3 (x / 8) (x % 8) (omega arith)

@@ -6,51 +6,65 @@ use Prim.Native.Nat.{ℕ, _-_, _*_, _/_, _%_, _^_, _<_}
 use lib.Bits.{bitAnd}
 use Rattle.numbers.specs.Bytes.{at, tabulate}
 use Rattle.expansions.specs.Answers.{answerMixed, answerFixed, answerCoefficient}
+use Rattle.expansions.specs.Split.{gather, outside}
 use Rattle.search.specs.Expansion.{answerExpansion}
-use Rattle.search.specs.inner.Search.{Limits, HoldsBlocks, Leads, polarityAt, coefficientAt}
+use Rattle.search.specs.inner.Lanes.{blockLanes, coefficientAt}
+use Rattle.search.specs.inner.Search.{Limits, Given, Leads, polarityAt}
 use Rattle.search.specs.declared.expansion.Expansion.{Expansion}
 use Rattle.search.specs.declared.pairs.Leader.{Leader}
+use Rattle.search.specs.declared.sizes.Sizes.{Sizes}
 use Rattle.search.proofs.found.Places.{polarities-answer, chosen-lt, coefficients-answer}
 use Rattle.search.proofs.found.Leader.{leader-mixed, leader-fixed, leader-products, leader-literals}
 
--- `functions` holds the block functions of the leader's M and i, and `blocks` the polarities found from them
-module _ (n m k : ℕ) (f : ℕ → ℕ) (leader : Leader) (functions blocks : List ℕ) (sizes : Limits n m k) (outputs : (p : ℕ) → p < 2 ^ n → f p < 2 ^ m)
-    (leads : Leads n k f (2 ^ n * 2 ^ n) leader)
-    (held : HoldsBlocks n m k (leader .pair / 2 ^ n) (bitAnd (leader .pair) (1 * 2 ^ n % 2 ^ 64 - 1)) f functions)
-    (found : blocks ≡ tabulate 256 (polarityAt n m k (at functions))) where
-  mixed : leader .pair / 2 ^ n ≡ answerMixed n k f
-  mixed = leader-mixed n k f leader (sizes .inputs) (sizes .within) leads
+-- the leader's M and i, as code takes them from its pair
+abbrev pub leaderMixed : ℕ → Leader → ℕ
+leaderMixed n leader = leader .pair / 2 ^ n
 
-  fixed : bitAnd (leader .pair) (1 * 2 ^ n % 2 ^ 64 - 1) ≡ answerFixed n k f
-  fixed = leader-fixed n k f leader (sizes .inputs) (sizes .within) leads
+abbrev pub leaderFixed : ℕ → Leader → ℕ
+leaderFixed n leader = bitAnd (leader .pair) (1 * 2 ^ n % 2 ^ 64 - 1)
 
-  held-answer : HoldsBlocks n m k (answerMixed n k f) (answerFixed n k f) f functions
+-- `lanes` holds the block functions of the leader's M and i, and `blocks` the polarities found from them
+module _ (s : Sizes) (table : List ℕ) (leader : Leader) (lanes blocks : List ℕ) (limits : Limits s) (given : Given (s .n) table)
+    (leads : Leads (s .n) (s .k) (at table) (2 ^ s .n * 2 ^ s .n) leader)
+    (held : lanes ≡ blockLanes (s .n) (s .k) (leaderMixed (s .n) leader) (gather (s .n) (outside (s .n) (leaderMixed (s .n) leader)) (leaderFixed (s .n) leader)) (at table))
+    (found : blocks ≡ tabulate 256 (polarityAt (s .n) (s .k) (at lanes))) where
+  mixed : leaderMixed (s .n) leader ≡ answerMixed (s .n) (s .k) (at table)
+  mixed = leader-mixed (s .n) (s .k) (at table) leader (limits .inputs) (limits .within) leads
+
+  fixed : leaderFixed (s .n) leader ≡ answerFixed (s .n) (s .k) (at table)
+  fixed = leader-fixed (s .n) (s .k) (at table) leader (limits .inputs) (limits .within) leads
+
+  outputs : (p : ℕ) → p < 2 ^ s .n → at table p < 2 ^ 8
+  outputs p l = given .bytes p
+
+  held-answer : lanes ≡ blockLanes (s .n) (s .k) (answerMixed (s .n) (s .k) (at table))
+      (gather (s .n) (outside (s .n) (answerMixed (s .n) (s .k) (at table))) (answerFixed (s .n) (s .k) (at table))) (at table)
   held-answer = rw (mixed, fixed) at held
 
   pub blocks-lt : (j : ℕ) → at blocks j < 8
-  blocks-lt j = rw found (chosen-lt n m k f functions sizes outputs held-answer j)
+  blocks-lt j = rw found (chosen-lt s (at table) lanes limits outputs held-answer j)
 
-  module _ (coefficients : List ℕ) (filled : coefficients ≡ tabulate 256 (coefficientAt n m k (leader .pair / 2 ^ n) (at functions) (at blocks))) where
-    filled-answer : coefficients ≡ tabulate 256 (answerCoefficient n k f)
-    filled-answer = filled ∙ rw (mixed, found) (coefficients-answer n m k f functions sizes outputs held-answer)
+  module _ (coefficients : List ℕ) (filled : coefficients ≡ tabulate 256 (coefficientAt (s .n) (leaderMixed (s .n) leader) (at lanes) (at blocks))) where
+    filled-answer : coefficients ≡ tabulate 256 (answerCoefficient (s .n) (s .k) (at table))
+    filled-answer = filled ∙ rw (mixed, found) (coefficients-answer s (at table) lanes limits outputs held-answer)
 
     pub record-answer : _≡_ {A = Expansion}
         (record {
           coefficients = coefficients;
           blocks = blocks;
-          mixed = leader .pair / 2 ^ n;
-          fixed = bitAnd (leader .pair) (1 * 2 ^ n % 2 ^ 64 - 1);
+          mixed = leaderMixed (s .n) leader;
+          fixed = leaderFixed (s .n) leader;
           products = leader .charge / 4096;
           literals = leader .charge % 4096;
         })
-        (answerExpansion n k f)
+        (answerExpansion (s .n) (s .k) (at table))
     unfolding answerExpansion
     record-answer =
         rw (
           filled-answer,
-          found ∙ polarities-answer n m k f functions sizes outputs held-answer,
+          found ∙ polarities-answer s (at table) lanes limits outputs held-answer,
           mixed,
           fixed,
-          leader-products n k f leader (sizes .inputs) (sizes .within) leads,
-          leader-literals n k f leader (sizes .inputs) (sizes .within) leads,
+          leader-products (s .n) (s .k) (at table) leader (limits .inputs) (limits .within) leads,
+          leader-literals (s .n) (s .k) (at table) leader (limits .inputs) (limits .within) leads,
         )

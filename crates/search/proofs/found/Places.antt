@@ -12,56 +12,64 @@ use Rattle.numbers.specs.Tests.{only}
 use Rattle.numbers.proofs.Bytes.{tabulate-ext}
 use Rattle.expansions.specs.Members.{block, place, Member}
 use Rattle.expansions.specs.BlockTable.{entry}
+use Rattle.expansions.specs.Split.{gather, outside}
 use Rattle.expansions.specs.Answers.{blockFunction, memberCoefficient, answerMixed, answerFixed, answerPolarity, answerCoefficient}
-use Rattle.search.specs.inner.Search.{Limits, HoldsBlocks, polarityAt, coefficientAt}
+use Rattle.search.specs.inner.Lanes.{blockLanes, coefficientIn, coefficientAt}
+use Rattle.search.specs.inner.Search.{Limits, MixedSet, polarityAt}
+use Rattle.search.specs.declared.sizes.Sizes.{Sizes}
 use Rattle.numbers.proofs.Tables.{at-whole}
 use Rattle.numbers.proofs.Pack.{pack-ext}
 use Rattle.expansions.proofs.Blocks.{block-lt, place-lt, blockFunction-lt}
 use Rattle.expansions.proofs.BlockTable.{entry-outputs}
 use Rattle.expansions.proofs.Answers.{only-ext, answer-member, answer-polarity-lt, answer-polarity-zero}
-use Rattle.search.proofs.planes.HeldBlocks.{held-polarity}
+use Rattle.search.proofs.lanes.Held.{held-plane, held-polarity}
 
-module _ (n m k : ℕ) (f : ℕ → ℕ) (functions : List ℕ) (sizes : Limits n m k) (outputs : (p : ℕ) → p < 2 ^ n → f p < 2 ^ m)
-    (held : HoldsBlocks n m k (answerMixed n k f) (answerFixed n k f) f functions) where
-  member : Member n k (answerMixed n k f) (answerFixed n k f) (answerPolarity n k f)
-  member = answer-member n k f (sizes .within)
+module _ (s : Sizes) (f : ℕ → ℕ) (lanes : List ℕ) (limits : Limits s) (outputs : (p : ℕ) → p < 2 ^ s .n → f p < 2 ^ 8)
+    (held : lanes ≡ blockLanes (s .n) (s .k) (answerMixed (s .n) (s .k) f) (gather (s .n) (outside (s .n) (answerMixed (s .n) (s .k) f)) (answerFixed (s .n) (s .k) f)) f) where
+  member : Member (s .n) (s .k) (answerMixed (s .n) (s .k) f) (answerFixed (s .n) (s .k) f) (answerPolarity (s .n) (s .k) f)
+  member = answer-member (s .n) (s .k) f (limits .within)
+
+  set : MixedSet s (answerMixed (s .n) (s .k) f)
+  set = record { mask = member .mask; size = member .size }
 
   -- ---- one place
 
-  pub polarityAt-answer : (j : ℕ) → polarityAt n m k (at functions) j ≡ answerPolarity n k f j
+  polarityAt-answer : (j : ℕ) → polarityAt (s .n) (s .k) (at lanes) j ≡ answerPolarity (s .n) (s .k) f j
   unfolding polarityAt answerPolarity
   polarityAt-answer j =
-      only-ext j (2 ^ (n - k)) _ _
-      (held-polarity n m k (answerMixed n k f) (answerFixed n k f) f functions sizes outputs (member .mask) (member .size) (member .fixed) held j)
+      only-ext j (2 ^ (s .n - s .k)) _ _
+      (held-polarity s (answerMixed (s .n) (s .k) f) (answerFixed (s .n) (s .k) f) f lanes limits outputs set held j)
 
-  pub coefficientAt-answer : (t : ℕ) → coefficientAt n m k (answerMixed n k f) (at functions) (answerPolarity n k f) t ≡ answerCoefficient n k f t
-  unfolding coefficientAt answerCoefficient memberCoefficient
+  coefficientAt-answer : (t : ℕ)
+      → coefficientAt (s .n) (answerMixed (s .n) (s .k) f) (at lanes) (answerPolarity (s .n) (s .k) f) t ≡ answerCoefficient (s .n) (s .k) f t
+  unfolding coefficientAt coefficientIn answerCoefficient memberCoefficient
   coefficientAt-answer t =
-      let M : ℕ = answerMixed n k f in
-      let i : ℕ = answerFixed n k f in
-      let φ : ℕ → ℕ = answerPolarity n k f in
-      let j : ℕ = block n M t in
-      let j-lt : j < 2 ^ (n - k) = block-lt n k M i φ member t in
-      ap (only (ltb t (2 ^ n)))
-      (pack-ext m _ _ (λ o l. ap (λ (g : ℕ). bit (place n M t) (entry g (φ j))) (held .each o j l j-lt))
-      ∙ entry-outputs m k (φ j) (blockFunction n k f M i j) (sizes .mixed) (member .inner j j-lt)
-      (λ p l. blockFunction-lt m n k M i f outputs (member .size) j p) (place n M t) (place-lt n k M i φ member t))
+      let M : ℕ = answerMixed (s .n) (s .k) f in
+      let i : ℕ = answerFixed (s .n) (s .k) f in
+      let φ : ℕ → ℕ = answerPolarity (s .n) (s .k) f in
+      let j : ℕ = block (s .n) M t in
+      let j-lt : j < 2 ^ (s .n - s .k) = block-lt (s .n) (s .k) M i φ member t in
+      ap (only (ltb t (2 ^ s .n)))
+      (pack-ext 8 _ _ (λ o l. ap (λ (g : ℕ). bit (place (s .n) M t) (entry g (φ j))) (held-plane s M i f lanes limits outputs set held o j l j-lt))
+      ∙ entry-outputs 8 (s .k) (φ j) (blockFunction (s .n) (s .k) f M i j) (limits .mixed) (member .inner j j-lt)
+      (λ p l. blockFunction-lt 8 (s .n) (s .k) M i f outputs (member .size) j p) (place (s .n) M t) (place-lt (s .n) (s .k) M i φ member t))
 
   -- ---- all places
 
-  pub polarities-answer : tabulate 256 (polarityAt n m k (at functions)) ≡ tabulate 256 (answerPolarity n k f)
+  pub polarities-answer : tabulate 256 (polarityAt (s .n) (s .k) (at lanes)) ≡ tabulate 256 (answerPolarity (s .n) (s .k) f)
   polarities-answer = tabulate-ext 256 _ _ (λ j l. polarityAt-answer j)
 
   -- the polarities, read from the array that holds them
-  chosen-answer : at (tabulate 256 (polarityAt n m k (at functions))) ≡ answerPolarity n k f
+  chosen-answer : at (tabulate 256 (polarityAt (s .n) (s .k) (at lanes))) ≡ answerPolarity (s .n) (s .k) f
   chosen-answer =
       ap at polarities-answer
-      ∙ at-whole 256 (answerPolarity n k f)
-      (λ j l. answer-polarity-zero n k f j (omega (arith, pow-mono {i = n - k} {j = 8} (omega (arith, sizes .inputs)))))
+      ∙ at-whole 256 (answerPolarity (s .n) (s .k) f)
+      (λ j l. answer-polarity-zero (s .n) (s .k) f j (omega (arith, pow-mono {i = s .n - s .k} {j = 8} (omega (arith, limits .inputs)))))
 
-  pub chosen-lt : (j : ℕ) → at (tabulate 256 (polarityAt n m k (at functions))) j < 8
-  chosen-lt j = omega (arith, ap (λ (φ : ℕ → ℕ). φ j) chosen-answer, answer-polarity-lt n k f (sizes .within) j, pow-mono (sizes .mixed))
+  pub chosen-lt : (j : ℕ) → at (tabulate 256 (polarityAt (s .n) (s .k) (at lanes))) j < 8
+  chosen-lt j = omega (arith, ap (λ (φ : ℕ → ℕ). φ j) chosen-answer, answer-polarity-lt (s .n) (s .k) f (limits .within) j, pow-mono (limits .mixed))
 
-  pub coefficients-answer : tabulate 256 (coefficientAt n m k (answerMixed n k f) (at functions) (at (tabulate 256 (polarityAt n m k (at functions)))))
-      ≡ tabulate 256 (answerCoefficient n k f)
+  pub coefficients-answer :
+      tabulate 256 (coefficientAt (s .n) (answerMixed (s .n) (s .k) f) (at lanes) (at (tabulate 256 (polarityAt (s .n) (s .k) (at lanes)))))
+      ≡ tabulate 256 (answerCoefficient (s .n) (s .k) f)
   coefficients-answer = rw chosen-answer (tabulate-ext 256 _ _ (λ t l. coefficientAt-answer t))

@@ -1,29 +1,31 @@
 -- `coefficients_into` meets its contract.
 use borrow.Author.Needs.{needs}
 use mathlib.Core.Path.{sym, ap, _∙_}
-use Prim.Native.Nat.{ℕ, _%_, _^_}
-use lib.ListN.{length}
-use Rattle.algebra.specs.Transform.{coefficientBytes}
-use Rattle.numbers.proofs.Bytes.{length-tabulate}
-use Rattle.algebra.proofs.transform.Filling.{Fitting, fits-true, move-room, coefficients-filled}
 use native.Mathlib.Omega.{arith}
+use lib.ListN.{length}
+use Rattle.numbers.proofs.Bytes.{length-tabulate}
+use Rattle.algebra.specs.Transform.{coefficientBytes}
+use Rattle.algebra.proofs.Lanes.{Fitting, fits-true}
+use Rattle.algebra.proofs.transform.Filling.{move-room, steps-ready, coefficients-filled}
 use Rattle.algebra.proofs.transform.coefficients_into.Statement.{statement}
 use Rattle.algebra.proofs.transform.coefficients_into.Tie as tie
 
-fitting : (c : tie.Then1) → let a = c .before .before .before .before .args in Fitting (a .n) (a .w) (length (a .tables .now)) (length (a .coefficients .now))
-fitting c = fits-true _ _ _ _ (sym (c .before .lengths-fit .ensures) ∙ c .if1 .taken)
+fitting : (c : tie.Then1) → let a = c .before .before .before .before .args in Fitting (a .low) (a .n) (a .w) (length (a .tables .now)) (length (a .coefficients .now))
+fitting c = fits-true _ _ _ _ _ (sym (c .before .lengths-fit .ensures) ∙ c .if1 .taken)
 
 lengths-fit-requires : tie.Need-lengths-fit-requires
 lengths-fit-requires c κs = search needs
 
+shl-move-points : tie.Need-shl-move-points
+shl-move-points c = omega (arith, fitting c .lows)
+
 move-points-requires : tie.Need-move-points-requires
-move-points-requires c κs = λ q h. let f = fitting (c .before) in omega (arith, f .same, move-room _ _ _ (f .polarity) (f .whole) q h)
+move-points-requires c κs = move-room _ _ _ _ _ (fitting (c .before))
 
 join-inside-requires : tie.Need-join-inside-requires
 join-inside-requires c κs =
-    let f = fitting (c .before .before .before .before .before) in
     let e = ap length (c .before .before .before .move-points .ensures) ∙ length-tabulate _ _ in
-    (f .inputs, ap (λ (x : ℕ). x % 2 ^ c .before .before .before .before .before .before .before .before .before .args .n) e ∙ f .whole)
+    steps-ready _ _ _ _ _ _ _ (fitting (c .before .before .before .before .before)) (omega arith) e
 
 same-length : tie.Need-same-length
 same-length c = search needs
@@ -32,7 +34,7 @@ returns : tie.Need-returns
 returns c =
     let t = c .before .before .before .before .before .before .before .before in
     let fits = sym (t .before .lengths-fit .ensures) ∙ t .if1 .taken in
-    coefficients-filled _ _ _ _ _ _ fits (c .before .before .before .before .before .before .move-points .ensures) (c .before .before .join-inside .ensures)
+    coefficients-filled _ _ _ _ _ _ _ fits (c .before .before .before .before .before .before .move-points .ensures) (c .before .before .join-inside .ensures)
 
 returns-2 : tie.Need-returns-2
 unfolding coefficientBytes
@@ -43,6 +45,7 @@ coefficients-into-spec =
     tie.close
     (tie.spec
     lengths-fit-requires
+    shl-move-points
     move-points-requires
     join-inside-requires
     same-length

@@ -2,16 +2,15 @@
 use borrow.Author.Needs.{needs}
 use mathlib.Core.Path.{_≡_, ap, _∙_}
 use mathlib.Core.List.{List}
-use Prim.Native.Nat.{ℕ, _^_, _%_, _≤_}
+use Prim.Native.Nat.{ℕ, _+_, _^_, _≤_}
+use native.Mathlib.Omega.{arith}
 use lib.Bits.{bitXor, xor-lt}
 use lib.ListN.{length}
 use lib.Pow.{pow-mono}
 use Rattle.numbers.specs.Bytes.{at, tabulate}
-use Rattle.algebra.specs.Coefficients.{xorInside}
-use Rattle.algebra.specs.Transform.{functionAt}
 use Rattle.numbers.proofs.Bytes.{length-tabulate}
+use Rattle.algebra.specs.inner.Steps.{halfStep, allSteps}
 use Rattle.algebra.proofs.transform.Filling.{values-filled, array-whole}
-use native.Mathlib.Omega.{arith}
 use Rattle.algebra.proofs.transform.fill_values.Statement.{statement}
 use Rattle.algebra.proofs.transform.fill_values.Tie as tie
 
@@ -25,7 +24,9 @@ slice-aggregate-join-inside : tie.Need-slice-aggregate-join-inside
 slice-aggregate-join-inside c = search needs
 
 join-inside-requires : tie.Need-join-inside-requires
-join-inside-requires c κs = (c .before .before .before .before .pre .0, rw (long (c .before)) (array-whole _ (c .before .before .before .before .pre .0)))
+join-inside-requires c κs =
+    let n-le = c .before .before .before .before .pre .0 in
+    (omega arith, n-le, rw (long (c .before)) (array-whole _ n-le))
 
 slice-aggregate-move-points : tie.Need-slice-aggregate-move-points
 slice-aggregate-move-points c = search needs
@@ -45,10 +46,10 @@ returns c =
     let s = c .before .before .before .before .before .before .before .before .before .before .before in
     let p = c .before .before .before .before .before .before .before .before in
     c .before .before .move-points .ensures
-    ∙ ap (λ (x : ℕ). tabulate x (λ q. at (c .before .before .before .before .before .before .join-inside .last .1 .0) (bitXor q (s .args .w)))) (s .pre .2)
+    ∙ ap (λ (x : ℕ). tabulate x (λ q. at (c .before .before .before .before .before .before .join-inside .last .1 .1 .0) (bitXor q (s .args .w)))) (s .pre .2)
     ∙ values-filled (s .args .n) (s .args .w) (s .args .coefficients .now) _ (s .pre .0) (s .pre .1)
     (c .before .before .before .before .before .before .join-inside .ensures
-    ∙ ap (λ (b : List ℕ). tabulate (length b) (λ t. xorInside (s .args .n) (functionAt (s .args .n) b t) (t % 2 ^ s .args .n))) (p .padded .ensures))
+    ∙ ap (λ (b : List ℕ). tabulate (length b) (allSteps (λ x. halfStep 1 (0 + x)) (s .args .n) (at b))) (p .padded .ensures))
 
 pub fill-values-spec : {M : Type 1} → statement M
 fill-values-spec =

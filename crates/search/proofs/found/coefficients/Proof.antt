@@ -2,17 +2,17 @@
 use borrow.Author.Needs.{needs}
 use Prim.Native.Nat.{_-_}
 use Rattle.numbers.specs.Bytes.{at}
-use Rattle.search.specs.inner.Search.{coefficientAt}
+use Rattle.search.specs.inner.Lanes.{coefficientAt}
 use Rattle.numbers.proofs.Bytes.{Filled, filled-none, filled-more, filled-all}
 use native.Mathlib.Omega.{arith}
 use Rattle.search.proofs.found.coefficients.Statement.{statement}
 use Rattle.search.proofs.found.coefficients.Tie as tie
 
 abbrev Inv-loop : tie.InvT-loop
-Inv-loop blocks n m k mixed functions chosen all₀ t₀ all t = Filled (coefficientAt n m k mixed (at functions) (at chosen)) t all₀ all
+Inv-loop rows sizes mixed lanes chosen all₀ t₀ all t = Filled (coefficientAt (sizes .n) mixed (at lanes) (at chosen)) t all₀ all
 
 abbrev μ-loop : tie.MeasureT-loop
-μ-loop blocks n m k mixed functions chosen all₀ t₀ all t = 256 - t
+μ-loop rows sizes mixed lanes chosen all₀ t₀ all t = 256 - t
 
 loop-holds : tie.Need-loop-holds Inv-loop μ-loop
 loop-holds c = filled-none _ _

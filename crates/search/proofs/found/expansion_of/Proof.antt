@@ -1,25 +1,34 @@
--- The leader's M and i are the answer's, and so are the block functions that `functions` holds for them. Of the empty record with which it
--- begins every field is set.
+-- The leader's M and i are the answer's, and so are the block functions that `lanes` holds for them. Of the empty record with which it begins
+-- every field is set.
 use borrow.Author.Needs.{needs}
-use Prim.Native.Nat.{_-_, _*_, _/_, _%_, _^_}
-use lib.Bits.{bitAnd}
+use mathlib.Core.Path.{_≡_, ap, _∙_}
+use mathlib.Core.List.{List}
+use Prim.Native.Nat.{ℕ, _-_, _*_, _/_, _^_}
+use lib.ListN.{length}
 use lib.Pow.{pow-pos}
-use Rattle.numbers.specs.Bytes.{at}
 use Rattle.numbers.proofs.Shifts.{one-shifted}
-use Rattle.expansions.specs.Members.{Member}
-use Rattle.expansions.specs.Answers.{answerPolarity}
+use Rattle.search.specs.inner.Search.{MixedSet}
+use Rattle.search.proofs.lanes.Room.{room-fits, room-lent, room-counted, room-kept, room-fits-again, room-counted-again}
 use Rattle.search.proofs.found.Leader.{leader-member}
 use Rattle.search.proofs.found.Answer.{blocks-lt, record-answer}
 use native.Mathlib.Omega.{arith}
 use Rattle.search.proofs.found.expansion_of.Statement.{statement}
 use Rattle.search.proofs.found.expansion_of.Tie as tie
 
-abbrev start : tie.After-expand-planes → tie.Start
-start c = c .before .before .before .before .before .before .before .before .before .before .before .before .before .before .before .before
+abbrev start : tie.After-expand-blocks → tie.Start
+start c = c .before .before .before .before .before .before .before .before
 
-member : (c : tie.Start) → let a = c .args in
-    Member (a .n) (a .k) (a .leader .pair / 2 ^ a .n) (bitAnd (a .leader .pair) (1 * 2 ^ a .n % 2 ^ 64 - 1)) (answerPolarity (a .n) (a .k) (at (a .table .now)))
-member c = leader-member _ _ _ (c .args .leader) (c .pre .1 .0 .inputs) (c .pre .1 .0 .within) (c .pre .1 .1 .1 .1)
+set : (c : tie.Start) → MixedSet (c .args .sizes) (c .args .leader .pair / 2 ^ c .args .sizes .n)
+set c =
+    let l = c .pre .1 .0 in
+    let member = leader-member _ _ _ (c .args .leader) (l .inputs) (l .within) (c .pre .1 .1 .1) in
+    record { mask = member .mask; size = member .size }
+
+abbrev lanes : tie.After-expand-blocks → List ℕ
+lanes c = c .expand-blocks .last .1 .1 .1 .0
+
+long : (c : tie.After-expand-blocks) → length (lanes c) ≡ 8 * 2 ^ (start c .args .sizes .n - start c .args .sizes .k)
+long c = c .expand-blocks .kept .1 .1 .1 .0 ∙ room-lent 8 _ (omega arith) (start c .pre .1 .0)
 
 shl-all : tie.Need-shl-all
 shl-all c = search needs
@@ -29,43 +38,64 @@ shr-mixed c = search needs
 
 sub-fixed : tie.Need-sub-fixed
 sub-fixed c =
-    let s = c .before .before .before .before .before in
-    rw (one-shifted (s .args .n) (omega (arith, s .pre .1 .0 .inputs))) (pow-pos (s .args .n))
+    let s = c .before .before .before .before in
+    rw (one-shifted (s .args .sizes .n) (omega (arith, s .pre .1 .0 .inputs))) (pow-pos (s .args .sizes .n))
 
-lay-out-requires : tie.Need-lay-out-requires
-lay-out-requires c κs =
-    let s = c .before .before .before .before .before .before .before .before in
-    let p = s .pre .1 .1 in
-    (s .pre .1 .0, ((member s .mask, p .0 .long), (p .1 .0 .for-places, p .1 .0 .for-planes)))
+sub-room : tie.Need-sub-room
+sub-room c = search needs
 
-expand-planes-requires : tie.Need-expand-planes-requires
-expand-planes-requires c κs =
-    let l = c .before .before .before .before .before .before in
-    let s = l .before .before .before .before .before .before .before .before .before in
-    let p = s .pre .1 .1 in (
-      s .pre .1 .0,
-      (record { given = p .0; mask = member s .mask; size = member s .size; laid = l .lay-out .ensures; room = p .1 .0 .for-functions }, member s .fixed),
-    )
+shl-room : tie.Need-shl-room
+shl-room c = search needs
+
+array-borrow-prefix-lanes : tie.Need-array-borrow-prefix-lanes
+array-borrow-prefix-lanes c =
+    let s = c .before .before .before .before .before .before in
+    room-fits 8 _ (omega arith) (s .pre .1 .0)
+
+slice-aggregate-expand-blocks : tie.Need-slice-aggregate-expand-blocks
+slice-aggregate-expand-blocks c =
+    let s = c .before .before .before .before .before .before .before in
+    room-counted 8 _ (omega arith) (s .pre .1 .0)
+
+expand-blocks-requires : tie.Need-expand-blocks-requires
+expand-blocks-requires c κs =
+    let s = c .before .before .before .before .before .before .before in
+    (s .pre .1 .0, (set s, (s .pre .1 .1 .0 .long, room-lent 8 _ (omega arith) (s .pre .1 .0))))
+
+array-share-prefix-lanes : tie.Need-array-share-prefix-lanes
+array-share-prefix-lanes c =
+    let e = c .before in
+    room-fits-again 8 _ (omega arith) (start e .pre .1 .0) (lanes e) _ (long e)
+
+slice-aggregate-polarities : tie.Need-slice-aggregate-polarities
+slice-aggregate-polarities c =
+    let e = c .before .before in
+    room-counted-again 8 _ (omega arith) (start e .pre .1 .0) (lanes e) _ (long e)
 
 polarities-requires : tie.Need-polarities-requires
 polarities-requires c κs =
+    let e = c .before .before in
+    let s = start e in
+    (s .pre .0, (s .pre .1 .0, ap length (room-kept 8 _ (omega arith) (s .pre .1 .0) (lanes e) _ (long e)) ∙ long e))
+
+array-share-prefix-lanes-2 : tie.Need-array-share-prefix-lanes-2
+array-share-prefix-lanes-2 c =
     let e = c .before .before .before in
-    (start e .pre .0, (start e .pre .1 .0, e .expand-planes .ensures .long))
+    room-fits-again 8 _ (omega arith) (start e .pre .1 .0) (lanes e) _ (long e)
+
+slice-aggregate-coefficients : tie.Need-slice-aggregate-coefficients
+slice-aggregate-coefficients c =
+    let e = c .before .before .before .before in
+    room-counted-again 8 _ (omega arith) (start e .pre .1 .0) (lanes e) _ (long e)
 
 coefficients-requires : tie.Need-coefficients-requires
 coefficients-requires c κs =
-    let e = c .before .before .before .before .before .before in
+    let e = c .before .before .before .before .before in
     let s = start e in
-    let p = s .pre .1 in (
-      (s .pre .0 .0, member s .mask, member s .size),
-      (
-        p .0,
-        (
-          e .expand-planes .ensures .long,
-          blocks-lt _ _ _ _ (s .args .leader) _ _ (p .0) (λ x l. p .1 .0 .clean x) (p .1 .1 .1) (e .expand-planes .ensures) (c .before .before .polarities .ensures),
-        ),
-      ),
-    )
+    let p = s .pre .1 in
+    let kept = room-kept 8 _ (omega arith) (p .0) (lanes e) _ (long e) in
+    let chosen = blocks-lt _ _ _ _ _ (p .0) (p .1 .0) (p .1 .1) (kept ∙ e .expand-blocks .ensures) (c .before .before .polarities .ensures) in
+    (s .pre .0, (p .0, ((set s, ap length kept ∙ long e), chosen)))
 
 empty-requires : tie.Need-empty-requires
 empty-requires c κs = search needs
@@ -76,22 +106,14 @@ cast-found c = search needs
 cast-found-2 : tie.Need-cast-found-2
 cast-found-2 c = search needs
 
-same-length : tie.Need-same-length
-same-length c = search needs
-
-same-length-2 : tie.Need-same-length-2
-same-length-2 c = search needs
-
-same-length-3 : tie.Need-same-length-3
-same-length-3 c = search needs
-
 returns : tie.Need-returns
 returns c =
-    let f = c .before .before .before in
-    let b = f .before .before .before in
-    let e = b .before .before .before .before in
-    let p = start e .pre .1 in
-    record-answer _ _ _ _ (start e .args .leader) _ _ (p .0) (λ x l. p .1 .0 .clean x) (p .1 .1 .1) (e .expand-planes .ensures) (b .polarities .ensures) _ (f .coefficients .ensures)
+    let e = c .before .before .before .before .before .before .before .before .before in
+    let s = start e in
+    let p = s .pre .1 in
+    let kept = room-kept 8 _ (omega arith) (p .0) (lanes e) _ (long e) in
+    let polarities = c .before .before .before .before .before .before .polarities .ensures in
+    record-answer _ _ _ _ _ (p .0) (p .1 .0) (p .1 .1) (kept ∙ e .expand-blocks .ensures) polarities _ (c .before .before .before .coefficients .ensures)
 
 pub expansion-of-spec : {M : Type 1} → statement M
 expansion-of-spec =
@@ -100,14 +122,18 @@ expansion-of-spec =
     shl-all
     shr-mixed
     sub-fixed
-    lay-out-requires
-    expand-planes-requires
+    sub-room
+    shl-room
+    array-borrow-prefix-lanes
+    slice-aggregate-expand-blocks
+    expand-blocks-requires
+    array-share-prefix-lanes
+    slice-aggregate-polarities
     polarities-requires
+    array-share-prefix-lanes-2
+    slice-aggregate-coefficients
     coefficients-requires
     empty-requires
     cast-found
     cast-found-2
-    same-length
-    same-length-2
-    same-length-3
     returns)

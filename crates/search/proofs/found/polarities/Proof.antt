@@ -9,10 +9,10 @@ use Rattle.search.proofs.found.polarities.Statement.{statement}
 use Rattle.search.proofs.found.polarities.Tie as tie
 
 abbrev Inv-loop : tie.InvT-loop
-Inv-loop blocks charges n m k functions all₀ j₀ all j = Filled (polarityAt n m k (at functions)) j all₀ all
+Inv-loop rows sizes lanes all₀ j₀ all j = Filled (polarityAt (sizes .n) (sizes .k) (at lanes)) j all₀ all
 
 abbrev μ-loop : tie.MeasureT-loop
-μ-loop blocks charges n m k functions all₀ j₀ all j = 256 - j
+μ-loop rows sizes lanes all₀ j₀ all j = 256 - j
 
 loop-holds : tie.Need-loop-holds Inv-loop μ-loop
 loop-holds c = filled-none _ _

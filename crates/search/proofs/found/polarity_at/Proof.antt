@@ -2,6 +2,7 @@
 use borrow.Author.Needs.{needs}
 use mathlib.Core.Path.{_≡_, sym, _∙_}
 use Prim.Native.Nat.{_-_, _*_, _%_, _^_, _≤_, _<_}
+use lib.Pow.{pow-mono}
 use Rattle.numbers.proofs.Shifts.{one-shifted}
 use Rattle.search.specs.inner.Search.{polarityAt}
 use Rattle.expansions.proofs.Answers.{only-below, only-above}
@@ -9,33 +10,39 @@ use native.Mathlib.Omega.{arith}
 use Rattle.search.proofs.found.polarity_at.Statement.{statement}
 use Rattle.search.proofs.found.polarity_at.Tie as tie
 
-size : (c : tie.Start) → 1 * 2 ^ (c .args .n - c .args .k) % 2 ^ 64 ≡ 2 ^ (c .args .n - c .args .k)
-size c = one-shifted (c .args .n - c .args .k) (omega arith)
+count : (c : tie.Start) → let s = c .args .sizes in 1 * 2 ^ (s .n - s .k) % 2 ^ 64 ≡ 2 ^ (s .n - s .k)
+count c = one-shifted _ (omega (arith, c .pre .1 .0 .inputs))
 
-below : (c : tie.Else1) → c .before .before .args .j < 2 ^ (c .before .before .args .n - c .before .before .args .k)
-below c = omega (arith, size (c .before .before))
+below : (c : tie.Else1) → let a = c .before .before .before .args in a .j < 2 ^ (a .sizes .n - a .sizes .k)
+below c = omega (arith, c .if1 .left, count (c .before .before .before))
 
-sub-r : tie.Need-sub-r
-sub-r c = search needs
+sub-count : tie.Need-sub-count
+sub-count c = search needs
 
-shl-size : tie.Need-shl-size
-shl-size c = search needs
+shl-count : tie.Need-shl-count
+shl-count c = search needs
 
 returns : tie.Need-returns
 unfolding polarityAt
 returns c =
-    let s = c .before .before in
-    let h : 2 ^ (s .args .n - s .args .k) ≤ s .args .j = omega (arith, size s) in
+    let a = c .before .before .before .args in
+    let h : 2 ^ (a .sizes .n - a .sizes .k) ≤ a .j = omega (arith, c .if1 .taken, count (c .before .before .before)) in
     sym (only-above _ _ _ h)
 
 cheapest-block-requires : tie.Need-cheapest-block-requires
 cheapest-block-requires c κs =
-    let p = c .before .before .pre in
-    (p .0, (p .1 .0 .outputs, omega arith, p .1 .0 .mixed, below c, p .1 .1))
+    let p = c .before .before .before .pre in
+    let z = c .before .before .before .args .sizes in (
+      p .0,
+      p .1 .0 .mixed,
+      omega (arith, below c, p .1 .0 .inputs, pow-mono {i = z .n - z .k} {j = 8} (omega (arith, p .1 .0 .inputs))),
+      omega (arith, below c, p .1 .1),
+    )
 
 returns-2 : tie.Need-returns-2
 unfolding polarityAt
 returns-2 c = c .cheapest-block .ensures .polarity ∙ sym (only-below _ _ _ (below (c .before)))
 
 pub polarity-at-spec : {M : Type 1} → statement M
-polarity-at-spec = tie.close (tie.spec sub-r shl-size returns cheapest-block-requires returns-2)
+polarity-at-spec =
+    tie.close (tie.spec sub-count shl-count returns cheapest-block-requires returns-2)

@@ -1,111 +1,49 @@
--- `try_mixed` meets its contract: the leader leads the pairs below `mixed` and `fixed`.
+-- `try_mixed` meets its contract: `mixed` has another number of inputs, or every i is tried with it.
 use borrow.Author.Needs.{needs}
-use mathlib.Core.Path.{_≡_, refl, _∙_}
-use Prim.Native.Nat.{_+_, _-_, _*_, _^_, suc, _≤_}
-use native.Mathlib.Nat.{add-zero, suc-mul}
-use native.Mathlib.Numerals.{add-one}
-use lib.ListN.{length}
-use lib.Pow.{pow-mono}
-use Rattle.numbers.specs.Bytes.{at}
-use Rattle.numbers.proofs.Shifts.{one-shifted}
-use Rattle.search.specs.inner.Search.{Leads}
+use mathlib.Core.Path.{sym, _∙_}
 use native.Mathlib.Omega.{arith}
+use Rattle.search.proofs.lanes.Room.{room-fits, room-lent, room-counted}
+use Rattle.search.proofs.pairs.Leading.{leads-other}
 use Rattle.search.proofs.pairs.try_mixed.Statement.{statement}
 use Rattle.search.proofs.pairs.try_mixed.Tie as tie
 
-abbrev Inv-loop : tie.InvT-loop
-Inv-loop blocks charges n m k mixed table places planes functions₀ all led₀ fixed₀ functions led fixed =
-    (all ≡ 2 ^ n)
-    × (fixed ≤ 2 ^ n)
-    × (length functions ≡ length functions₀) × Leads n k (at table) (mixed * 2 ^ n + fixed) led
+ones-in-requires : tie.Need-ones-in-requires
+ones-in-requires c κs = search needs
 
-abbrev μ-loop : tie.MeasureT-loop
-μ-loop blocks charges n m k mixed table places planes functions₀ all led₀ fixed₀ functions led fixed = all - fixed
+returns : tie.Need-returns
+returns c = let s = c .before .before .before .before in leads-other _ _ _ _ _ (λ e. c .if1 .taken (c .before .before .ones-in .ensures ∙ e)) (s .pre .1 .1 .1 .1)
 
-lay-out-requires : tie.Need-lay-out-requires Inv-loop μ-loop
-lay-out-requires c κs =
-    let p = c .before .before .before .before .before .before .pre .1 in
-    (p .0, ((p .1 .1 .1 .0, p .1 .0 .long), (p .1 .1 .0 .for-places, p .1 .1 .0 .for-planes)))
+sub-all : tie.Need-sub-all
+sub-all c = search needs
 
-shl-all : tie.Need-shl-all Inv-loop μ-loop
-shl-all c = omega (arith, c .before .before .before .before .before .before .before .before .before .before .before .pre .1 .0 .inputs)
+shl-all : tie.Need-shl-all
+shl-all c = search needs
 
-loop-holds : tie.Need-loop-holds Inv-loop μ-loop
-loop-holds c =
-    let s = c .before .before .before .before .before .before .before .before .before .before .before in
-    (one-shifted _ (omega (arith, s .pre .1 .0 .inputs)), omega arith, refl, rw (add-zero (s .args .mixed * 2 ^ s .args .n)) (s .pre .1 .1 .1 .1 .2))
+array-borrow-prefix-lanes : tie.Need-array-borrow-prefix-lanes
+array-borrow-prefix-lanes c = let s = c .before .before .before .before .before in room-fits 8 (s .args .sizes) (omega arith) (s .pre .1 .0)
 
-try-fixed-requires : tie.Need-try-fixed-requires Inv-loop μ-loop
-try-fixed-requires c κs =
-    let s = c .before .before .before .before .before .before .before .before .before .before .before .before .before .before .before in
+slice-aggregate-try-polarities : tie.Need-slice-aggregate-try-polarities
+slice-aggregate-try-polarities c = let s = c .before .before .before .before .before .before in room-counted 8 (s .args .sizes) (omega arith) (s .pre .1 .0)
+
+try-polarities-requires : tie.Need-try-polarities-requires
+try-polarities-requires c κs =
+    let s = c .before .before .before .before .before .before in
     let p = s .pre .1 in
-    let l = c .before .before .before .loop in (
-      s .pre .0,
-      (
-        p .0,
-        (
-          record {
-            given = p .1 .0;
-            mask = p .1 .1 .1 .0;
-            size = p .1 .1 .1 .1;
-            laid = c .before .before .before .before .before .before .before .before .lay-out .ensures;
-            room = l .inv .2 ∙ p .1 .1 .0 .for-functions;
-          },
-          (omega (arith, c .before .before .loop-test .taken, l .inv .0), l .inv .3),
-        ),
-      ),
-    )
+    let size = sym (c .before .before .before .before .ones-in .ensures) ∙ c .before .before .if1 .left in
+    (s .pre .0, (p .0, (p .1 .0, ((record { mask = p .1 .1 .0; size = size }, room-lent 8 (s .args .sizes) (omega arith) (p .0)), p .1 .1 .1))))
 
-add-fixed : tie.Need-add-fixed Inv-loop μ-loop
-add-fixed c =
-    let s = c .before .before .before .before .before .before .before .before .before .before .before .before .before .before .before .before .before .before in
-    let size : 2 ^ s .args .n ≤ 256 = pow-mono (s .pre .1 .0 .inputs) in
-    let t = c .before .before .before .before .before in
-    omega (arith, t .loop-test .taken, t .before .loop .inv .0)
-
-loop-less : tie.Need-loop-less Inv-loop μ-loop
-loop-less c = search needs
-
-loop-again : tie.Need-loop-again Inv-loop μ-loop
-loop-again c =
-    let l = c .before .before .before .before .before .before .loop in
-    let f = c .before .before .try-fixed in (
-      l .inv .0,
-      omega (arith, c .before .before .before .before .before .loop-test .taken, l .inv .0),
-      f .kept .1 .1 .1 .1 .1 .1 .1 .1 .1 .0 ∙ l .inv .2,
-      rw add-one (f .ensures),
-    )
-
-same-length : tie.Need-same-length Inv-loop μ-loop
-same-length c = search needs
-
-same-length-2 : tie.Need-same-length-2 Inv-loop μ-loop
-same-length-2 c = search needs
-
-same-length-3 : tie.Need-same-length-3 Inv-loop μ-loop
-same-length-3 c = search needs
-
-returns : tie.Need-returns Inv-loop μ-loop
-returns c =
-    let a = c .before .before .before .before .before .before .before .before .before .before .before .before .before .args in
-    let l = c .before .loop in
-    let e : a .mixed * 2 ^ a .n + l .fixed ≡ suc (a .mixed) * 2 ^ a .n = omega (arith, c .loop-test .left, l .inv .0, l .inv .1, suc-mul (a .mixed) (2 ^ a .n)) in
-    rw e at (l .inv .3)
+returns-2 : tie.Need-returns-2
+returns-2 c = search needs
 
 pub try-mixed-spec : {M : Type 1} → statement M
 try-mixed-spec =
     tie.close
     (tie.spec
-    Inv-loop
-    μ-loop
-    lay-out-requires
+    ones-in-requires
+    returns
+    sub-all
     shl-all
-    loop-holds
-    try-fixed-requires
-    add-fixed
-    loop-less
-    loop-again
-    same-length
-    same-length-2
-    same-length-3
-    returns)
+    array-borrow-prefix-lanes
+    slice-aggregate-try-polarities
+    try-polarities-requires
+    returns-2)

@@ -1,0 +1,4 @@
+pub mod Held
+pub mod Laying
+pub mod Room
+pub mod Turning
