@@ -1,54 +1,31 @@
-/* The block method over bytes, to time the minimising call beside it. The places of a block are the bits
-   of a byte; the block table and the charges are computed once, by block_search_prepare. */
+/* The search by lanes, to time the minimising call beside it: the same method as crates/search, in C. Byte
+   o of word j is output o of block j, its bits the places of the block. rows[g] has the coefficients of g
+   under the eight polarities, a byte for each; it is computed once, by block_search_prepare. */
 
 #include <stddef.h>
 #include <stdint.h>
-#include <string.h>
 
-enum { INPUTS = 8, OUTPUTS = 8, POINTS = 256, FUNCTIONS = 256, POLARITIES = 8, PRODUCT = 4096 };
+enum { INPUTS = 8, OUTPUTS = 8, FUNCTIONS = 256, POLARITIES = 8, PLACES = 8, PRODUCT = 4096 };
 
-/* block_table[g][phi]: the coefficients of g under phi. */
-static uint8_t block_table[FUNCTIONS][POLARITIES];
+static const uint8_t literals[8] = {0, 1, 1, 2, 1, 2, 2, 3};
 
-/* charges[l][u]: products * PRODUCT + literals of the places in u, each with l literals outside. */
-static uint32_t charges[INPUTS + 1][FUNCTIONS];
+static uint64_t rows[FUNCTIONS];
 
 static unsigned ones(unsigned set) { return (unsigned)__builtin_popcount(set); }
 
-/* One step of the transform for each input: the cofactor where the literal is false, and the sum. */
-static void transform(unsigned inputs, unsigned polarity, uint8_t *bytes)
-{
-    for (unsigned input = 0; input < inputs; input++) {
-        size_t half = (size_t)1 << input;
-        uint8_t swapped = (uint8_t)-(polarity >> input & 1);
-        for (size_t base = 0; base < (size_t)1 << inputs; base += 2 * half)
-            for (size_t q = base; q < base + half; q++) {
-                uint8_t sum = bytes[q] ^ bytes[q + half];
-                bytes[q] ^= sum & swapped;
-                bytes[q + half] = sum;
-            }
-    }
-}
-
 void block_search_prepare(void)
 {
-    for (unsigned g = 0; g < FUNCTIONS; g++)
-        for (unsigned phi = 0; phi < POLARITIES; phi++) {
-            uint8_t places[8];
-            for (unsigned p = 0; p < 8; p++)
-                places[p] = g >> p & 1;
-            transform(3, phi, places);
-            block_table[g][phi] = 0;
-            for (unsigned t = 0; t < 8; t++)
-                block_table[g][phi] |= (uint8_t)(places[t] << t);
-        }
-    for (unsigned outside = 0; outside <= INPUTS; outside++)
-        for (unsigned set = 0; set < FUNCTIONS; set++) {
-            charges[outside][set] = 0;
-            for (unsigned t = 0; t < 8; t++)
-                if (set >> t & 1)
-                    charges[outside][set] += PRODUCT + outside + ones(t);
-        }
+    for (unsigned g = 0; g < FUNCTIONS; g++) {
+        rows[g] = 0;
+        for (unsigned phi = 0; phi < POLARITIES; phi++)
+            for (unsigned t = 0; t < PLACES; t++) {
+                unsigned digit = 0;
+                for (unsigned p = 0; p < PLACES; p++)
+                    if ((p & t) == p)
+                        digit ^= g >> (p ^ phi) & 1;
+                rows[g] |= (uint64_t)digit << (8 * phi + t);
+            }
+    }
 }
 
 /* The bits of x, lowest first, at the inputs of the set. */
@@ -63,105 +40,115 @@ static unsigned spread(unsigned x, unsigned set)
     return y;
 }
 
-/* One design under one mixed set: byte q of rows[o] has at bit r output o at block q and place r. */
+/* One design under one mixed set, and the functions of its blocks. */
 struct split {
-    size_t outputs, inside, outside, blocks;
-    unsigned mixed, rest;
-    uint8_t rows[OUTPUTS][POINTS];
+    unsigned mixed, rest, inside, outside, blocks;
+    uint64_t lanes[1 << INPUTS];
 };
 
-static void split(struct split *s, size_t n, size_t m, unsigned mixed, const uint8_t *table)
+static void lay_out(struct split *s, size_t n, unsigned mixed, const uint8_t *table)
 {
-    s->outputs = m;
+    unsigned places[PLACES];
     s->mixed = mixed;
     s->rest = ((1u << n) - 1) & ~mixed;
     s->inside = ones(mixed);
-    s->outside = n - s->inside;
-    s->blocks = (size_t)1 << s->outside;
-    memset(s->rows, 0, sizeof s->rows);
-    unsigned places[8];
-    for (unsigned r = 0; r < 8; r++)
-        places[r] = spread(r & ((1u << s->inside) - 1), mixed);
-    for (size_t q = 0; q < s->blocks; q++) {
-        unsigned base = spread((unsigned)q, s->rest);
-        for (unsigned r = 0; r < 8; r++)
-            for (size_t o = 0; o < m; o++)
-                s->rows[o][q] |= (uint8_t)((table[base | places[r]] >> o & 1) << r);
+    s->outside = (unsigned)n - s->inside;
+    s->blocks = 1u << s->outside;
+    for (unsigned p = 0; p < PLACES; p++)
+        places[p] = spread(p & ((1u << s->inside) - 1), mixed);
+    for (unsigned q = 0; q < s->blocks; q++) {
+        unsigned base = spread(q, s->rest);
+        s->lanes[q] = 0;
+        for (unsigned o = 0; o < OUTPUTS; o++)
+            for (unsigned p = 0; p < PLACES; p++)
+                s->lanes[q] |= (uint64_t)(table[base | places[p]] >> o & 1) << (8 * o + p);
     }
 }
 
-/* The block functions under one polarity of the inputs outside. */
-static void block_functions(const struct split *s, unsigned polarity, uint8_t rows[OUTPUTS][POINTS])
+/* The half step for an input: each block where the input is `with` takes up the one where it is not. */
+static void half_step(struct split *s, unsigned with, unsigned input)
 {
-    for (size_t o = 0; o < s->outputs; o++) {
-        memcpy(rows[o], s->rows[o], s->blocks);
-        transform((unsigned)s->outside, polarity, rows[o]);
-    }
+    unsigned half = 1u << input, to = with << input, from = (1 - with) << input;
+    for (unsigned base = 0; base < s->blocks; base += 2 * half)
+        for (unsigned q = base; q < base + half; q++)
+            s->lanes[q + to] ^= s->lanes[q + from];
 }
 
-/* The least charge of all blocks together, and the least polarity that has it in each. */
-static uint32_t choose(const struct split *s, uint8_t rows[OUTPUTS][POINTS], uint8_t *chosen)
+/* The inputs in which two polarities differ, turned over. */
+static void turn(struct split *s, unsigned changed)
 {
-    uint32_t total = 0;
-    unsigned polarities = 1u << s->inside;
-    for (size_t j = 0; j < s->blocks; j++) {
-        uint8_t used[POLARITIES] = {0};
-        for (size_t o = 0; o < s->outputs; o++)
-            for (unsigned phi = 0; phi < POLARITIES; phi++)
-                used[phi] |= block_table[rows[o][j]][phi];
-        const uint32_t *charge = charges[ones((unsigned)j)];
-        uint32_t least = charge[used[0]];
-        uint8_t best = 0;
-        for (unsigned phi = 1; phi < polarities; phi++)
-            if (charge[used[phi]] < least) {
-                least = charge[used[phi]];
-                best = (uint8_t)phi;
-            }
-        chosen[j] = best;
-        total += least;
-    }
-    return total;
+    for (unsigned input = 0; input < s->outside; input++)
+        if (changed >> input & 1)
+            half_step(s, 0, input);
 }
 
-static void write_coefficients(const struct split *s, unsigned polarity, const uint8_t *chosen,
-                               uint8_t *coefficients)
+static void expand(struct split *s, size_t n, unsigned mixed, const uint8_t *table)
 {
-    uint8_t rows[OUTPUTS][POINTS];
-    block_functions(s, polarity, rows);
-    for (size_t j = 0; j < s->blocks; j++)
-        for (unsigned r = 0; r < 1u << s->inside; r++) {
+    lay_out(s, n, mixed, table);
+    for (unsigned input = 0; input < s->outside; input++)
+        half_step(s, 1, input);
+}
+
+/* The least charge of a block, and the least polarity that has it. */
+static uint32_t cheapest(const struct split *s, unsigned j, uint8_t *chosen)
+{
+    uint64_t used = 0, sums = 0;
+    for (unsigned o = 0; o < OUTPUTS; o++)
+        used |= rows[s->lanes[j] >> (8 * o) & 255];
+    for (unsigned t = 0; t < PLACES; t++)
+        sums += (used >> t & 0x0101010101010101u) * (16u + literals[t]);
+    uint32_t least = sums & 255;
+    *chosen = 0;
+    for (unsigned phi = 1; phi < 1u << s->inside; phi++) {
+        uint32_t sum = sums >> (8 * phi) & 255;
+        if (sum < least) {
+            least = sum;
+            *chosen = (uint8_t)phi;
+        }
+    }
+    return (least >> 4) * (PRODUCT + ones(j)) + (least & 15);
+}
+
+static void write_coefficients(const struct split *s, const uint8_t *blocks, uint8_t *coefficients)
+{
+    for (unsigned j = 0; j < s->blocks; j++)
+        for (unsigned p = 0; p < 1u << s->inside; p++) {
             uint8_t byte = 0;
-            for (size_t o = 0; o < s->outputs; o++)
-                byte |= (uint8_t)((block_table[rows[o][j]][chosen[j]] >> r & 1) << o);
-            coefficients[spread((unsigned)j, s->rest) | spread(r, s->mixed)] = byte;
+            for (unsigned o = 0; o < OUTPUTS; o++)
+                byte |= (uint8_t)((rows[s->lanes[j] >> (8 * o) & 255] >> (8 * blocks[j] + p) & 1) << o);
+            coefficients[spread(j, s->rest) | spread(p, s->mixed)] = byte;
         }
 }
 
 /* The least member that gives a sound table. The answer is number, line, M, i, products, literals. */
-void block_search(size_t n, size_t m, size_t k, const uint8_t *table, uint8_t *coefficients,
-                  uint8_t *blocks, uint64_t *answer)
+void block_search(size_t n, size_t k, const uint8_t *table, uint8_t *coefficients, uint8_t *blocks,
+                  uint64_t *answer)
 {
     struct split s;
-    uint8_t rows[OUTPUTS][POINTS], chosen[POINTS];
+    uint8_t chosen;
     uint32_t least = UINT32_MAX;
     unsigned best_mixed = 0, best_polarity = 0;
     for (unsigned mixed = 0; mixed < 1u << n; mixed++) {
         if (ones(mixed) != k)
             continue;
-        split(&s, n, m, mixed, table);
+        expand(&s, n, mixed, table);
         for (unsigned polarity = 0; polarity < s.blocks; polarity++) {
-            block_functions(&s, polarity, rows);
-            uint32_t total = choose(&s, rows, chosen);
+            uint32_t total = 0;
+            for (unsigned j = 0; j < s.blocks; j++)
+                total += cheapest(&s, j, &chosen);
             if (total < least) {
                 least = total;
                 best_mixed = mixed;
                 best_polarity = polarity;
-                memcpy(blocks, chosen, s.blocks);
             }
+            turn(&s, polarity ^ (polarity + 1));
         }
     }
-    split(&s, n, m, best_mixed, table);
-    write_coefficients(&s, best_polarity, blocks, coefficients);
+    expand(&s, n, best_mixed, table);
+    turn(&s, best_polarity);
+    for (unsigned j = 0; j < s.blocks; j++)
+        cheapest(&s, j, &blocks[j]);
+    write_coefficients(&s, blocks, coefficients);
     answer[0] = answer[1] = 0;
     answer[2] = best_mixed;
     answer[3] = spread(best_polarity, s.rest);

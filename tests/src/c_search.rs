@@ -7,7 +7,6 @@ unsafe extern "C" {
     fn block_search_prepare();
     fn block_search(
         n: usize,
-        m: usize,
         k: usize,
         table: *const u8,
         coefficients: *mut u8,
@@ -37,7 +36,6 @@ pub fn minimise(
     unsafe {
         block_search(
             n,
-            m,
             k,
             table.as_ptr(),
             coefficients.as_mut_ptr(),

@@ -14,14 +14,19 @@ pub fn path() -> PathBuf {
     env::var("MIPALDOZ_RMFORM").map_or(beside, PathBuf::from)
 }
 
-/// What the program writes when its standard input comes in these pieces, one after the other.
+/// What `rmform` writes when its standard input comes in these pieces, one after the other.
 pub fn run(pieces: &[&[u8]], between: impl Fn()) -> Vec<u8> {
-    let mut command = Command::new(path());
+    run_at(&path(), pieces, between)
+}
+
+/// The same for the program at this path.
+pub fn run_at(path: &Path, pieces: &[&[u8]], between: impl Fn()) -> Vec<u8> {
+    let mut command = Command::new(path);
     let mut program = command
         .stdin(Stdio::piped())
         .stdout(Stdio::piped())
         .spawn()
-        .unwrap_or_else(|error| panic!("{}: {error}", path().display()));
+        .unwrap_or_else(|error| panic!("{}: {error}", path.display()));
     let mut input = program.stdin.take().expect("standard input is piped");
     for piece in pieces {
         // The program may end before it has taken all: what it has written is judged, not this.

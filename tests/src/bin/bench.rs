@@ -78,8 +78,9 @@ fn main() {
         calls::forward(8, 8, w, &table, &mut ours, &mut answer);
         butterfly(8, 8, w, &table, &mut theirs, &mut answer);
         assert_eq!(ours, theirs, "the two disagree at w = {w}");
-        let works = (work(calls::forward, w, &table), work(butterfly, w, &table));
-        let (call, rust) = side_by_side(200, 2000, works.0, works.1);
+        let works: [&mut dyn FnMut(); 2] =
+            [&mut work(calls::forward, w, &table), &mut work(butterfly, w, &table)];
+        let [call, rust] = side_by_side(200, 2000, works);
         println!("w = {w:3}\t{:8.1}\t{:8.1}\t{:6.2}", call * 1e9, rust * 1e9, call / rust);
     }
 }

@@ -1,27 +1,60 @@
-//! Times the program `rmform` from start to end, on a text of eight inputs and outputs with three mixed
-//! inputs, beside the search in C alone. A run on empty input shows what starting the program takes.
+//! Times the program `rmform` on tables of eight inputs, at every k, beside the same method in C. What a run
+//! on empty input takes, the start of the process, is taken off. A program given as the argument, as an
+//! `rmform` of an earlier commit, is timed in the same run.
 
 use outside_cases::c_search;
-use outside_cases::program::run;
+use outside_cases::program::{self, run_at};
 use outside_cases::seeded::Seeded;
-use outside_cases::seeded::tables::random_table;
+use outside_cases::seeded::tables::{random_table, table_of};
 use outside_cases::text::Design;
 use outside_cases::timing::side_by_side;
+use std::env;
 use std::hint::black_box;
+use std::path::{Path, PathBuf};
+
+const N: usize = 8;
+
+/// Milliseconds for the design by each of two programs, the start of the process taken off, and by the C code.
+fn milliseconds(design: &Design, programs: [&Path; 2]) -> [f64; 3] {
+    let text = design.text();
+    let (mut coefficients, mut blocks) = ([0; 1 << N], vec![0; 1 << (N - design.k)]);
+    let mut search = || {
+        let (table, filled) = (black_box(&design.table[..]), &mut coefficients);
+        c_search::minimise(N, design.m, design.k, table, filled, &mut blocks, &mut [0; 6]);
+    };
+    let run = |program: usize, input: &[u8]| {
+        drop(black_box(run_at(programs[program], &[input], || ())));
+    };
+    let works: [&mut dyn FnMut(); 5] = [
+        &mut || run(0, &text),
+        &mut || run(0, b""),
+        &mut || run(1, &text),
+        &mut || run(1, b""),
+        &mut search,
+    ];
+    let [first, first_start, second, second_start, c] = side_by_side(60, 1, works);
+    [first - first_start, second - second_start, c].map(|seconds| seconds * 1e3)
+}
 
 fn main() {
-    let table = random_table(&mut Seeded::new(1), 8, 8);
-    let text = Design { n: 8, m: 8, k: 3, table: table.clone() }.text();
-    let (mut coefficients, mut blocks, mut answer) = ([0; 256], [0; 32], [0; 6]);
-    let mut search = || {
-        let table = black_box(&table[..]);
-        c_search::minimise(8, 8, 3, table, &mut coefficients, &mut blocks, &mut answer);
-    };
-    let program = |input: &[u8]| drop(black_box(run(&[input], || ())));
-    let (whole, c) = side_by_side(30, 1, || program(&text), &mut search);
-    let (start, _) = side_by_side(30, 1, || program(b""), &mut search);
-    let [whole_ms, start_ms, c_ms] = [whole, start, c].map(|seconds| seconds * 1e3);
-    println!("rmform, n = 8, m = 8, k = 3: {whole_ms:.2} ms, on empty input {start_ms:.2} ms");
-    println!("search in C: {c_ms:.2} ms, ratio {:.2}", whole / c);
-    println!("ratio without the time of a run on empty input: {:.2}", (whole - start) / c);
+    let rmform = program::path();
+    let before = env::args().nth(1).map(PathBuf::from);
+    let other = before.as_ref().unwrap_or(&rmform);
+    let tables = [
+        ("random", 8, random_table(&mut Seeded::new(1), N, 8)),
+        ("rd84", 4, table_of(N, 4, |p| p.count_ones() as u8)),
+    ];
+    println!("milliseconds for a design of {N} inputs, without the start of the process");
+    println!("table\tk\trmform\tC\trmform/C\tbefore\trmform/before");
+    for (name, m, table) in tables {
+        for k in 0..=3 {
+            let design = Design { n: N, m, k, table: table.clone() };
+            let [ours, theirs, c] = milliseconds(&design, [&rmform, other]);
+            print!("{name}\t{k}\t{ours:.2}\t{c:.2}\t{:.2}", ours / c);
+            match before {
+                Some(_) => println!("\t{theirs:.2}\t{:.2}", ours / theirs),
+                None => println!(),
+            }
+        }
+    }
 }

@@ -1,4 +1,4 @@
-//! Times the minimising call beside the same block method in C (`c/search.c`).
+//! Times the minimising call beside the same method in C (`c/search.c`).
 //! Prints microseconds for a design, the C code's and the ratio, the best of several repeats.
 
 use outside_cases::calls::{self, MinimiseAnswer};
@@ -35,7 +35,9 @@ impl Design<'_> {
     fn seconds(&self) -> (f64, f64) {
         let work = |search: Search| move || drop(black_box(self.minimise(search)));
         let runs = 1 << (2 * (8 - self.n));
-        side_by_side(7, runs, work(calls::minimise), work(c_search::minimise))
+        let [call, c] =
+            side_by_side(7, runs, [&mut work(calls::minimise), &mut work(c_search::minimise)]);
+        (call, c)
     }
 }
 
