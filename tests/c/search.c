@@ -141,7 +141,8 @@ void block_search(size_t n, size_t k, const uint8_t *table, uint8_t *coefficient
                 best_mixed = mixed;
                 best_polarity = polarity;
             }
-            turn(&s, polarity ^ (polarity + 1));
+            if (polarity + 1 < s.blocks)
+                turn(&s, polarity ^ (polarity + 1));
         }
     }
     expand(&s, n, best_mixed, table);

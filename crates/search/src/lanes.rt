@@ -12,15 +12,9 @@ use crate::expansion::Expansion;
 use crate::points::gather;
 use crate::points::outside;
 use crate::points::spread;
+use crate::points::wide;
 use crate::sizes::Pair;
 use crate::sizes::Sizes;
-
-// A byte as a number.
-fn wide(x: u8) -> usize
-    ensures { λ r. ⌜ (r ≡ x) × (r < 256) ⌝ }
-{
-    x as usize
-}
 
 // Fills `points` with the numbers 0, 1, .. opened out at the inputs of the mask.
 fn open_out(n: usize, mask: usize, points: &mut [u8])

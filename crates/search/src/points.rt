@@ -5,6 +5,13 @@ ghost use Prim.Native.Nat.{_≤_, _<_, _^_};
 ghost use lib.Count.{onesIn};
 ghost use Rattle.expansions.specs.Split as Split;
 
+// A byte, as points, offsets and polarities are stored, as a number.
+pub fn wide(x: u8) -> usize
+    ensures { λ r. ⌜ (r ≡ x) × (r < 256) ⌝ }
+{
+    x as usize
+}
+
 // The number of inputs in the mask.
 pub fn ones_in(n: usize, mask: usize) -> usize
     requires { ⌜ n ≤ 8 ⌝ }

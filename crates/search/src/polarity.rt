@@ -5,13 +5,7 @@ use crate::expansion::Expansion;
 use crate::points::gather;
 use crate::points::outside;
 use crate::points::spread;
-
-// A byte as a number.
-fn wide(x: u8) -> usize
-    ensures { λ r. ⌜ r ≡ x ⌝ }
-{
-    x as usize
-}
+use crate::points::wide;
 
 // The polarity of the term t: the fixed polarity outside the mixed set, and in it the polarity of the term's block. Where n is above 8 or
 // a mask is none of n inputs it gives 0.

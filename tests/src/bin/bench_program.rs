@@ -45,7 +45,8 @@ fn main() {
         ("rd84", 4, table_of(N, 4, |p| p.count_ones() as u8)),
     ];
     println!("milliseconds for a design of {N} inputs, without the start of the process");
-    println!("table\tk\trmform\tC\trmform/C\tbefore\trmform/before");
+    let more = before.as_ref().map_or("", |_| "\tbefore\trmform/before");
+    println!("table\tk\trmform\tC\trmform/C{more}");
     for (name, m, table) in tables {
         for k in 0..=3 {
             let design = Design { n: N, m, k, table: table.clone() };

@@ -20,7 +20,7 @@ use Rattle.algebra.proofs.Coefficients.{coefficient-ext}
 use Rattle.expansions.specs.Split.{gather, spread, outside, join}
 use Rattle.expansions.specs.inner.Planes.{plane}
 use Rattle.expansions.proofs.Split.{spread-lt, spread-mod, join-lt}
-use Rattle.search.specs.inner.Lanes.{placesByte, lanesUnder, blockLanes}
+use Rattle.search.specs.inner.Lanes.{laneByte, placesByte, lanesUnder, blockLanes}
 use Rattle.search.specs.inner.Search.{Limits, MixedSet}
 use Rattle.search.specs.declared.sizes.Sizes.{Sizes}
 use Rattle.search.proofs.lanes.Held.{fixed-lt}
@@ -44,7 +44,7 @@ module _ (table offsets : List ℕ) (point o p byte w : ℕ) (next : p < 8) (off
 
 -- the byte x of the layout, by the first point of each block and the offset of each place
 abbrev pub laidByte : (table points offsets : List ℕ) → ℕ → ℕ
-laidByte table points offsets x = pack 8 (λ p. bit (x % 8) (at table (at points (x / 8) + at offsets p)))
+laidByte table points offsets x = laneByte table (at points (x / 8)) offsets (x % 8)
 
 -- of the output `x & y`
 pub output-lt : (x y : ℕ) → y ≤ 7 → bitAnd x y < 8
@@ -52,9 +52,9 @@ output-lt x y h = omega (arith, and-le-r x y)
 
 -- as code packs it, of the output `x & 7`
 pub laid-byte : (table points offsets : List ℕ) (x point y : ℕ) → point ≡ at points (x / 8)
-    → y ≡ pack 8 (λ p. bit (bitAnd x 7) (at table (point + at offsets p))) → y ≡ laidByte table points offsets x
+    → y ≡ laneByte table point offsets (bitAnd x 7) → y ≡ laidByte table points offsets x
 laid-byte table points offsets x point y first e =
-    e ∙ ap₂ (λ (q o : ℕ). pack 8 (λ p. bit o (at table (q + at offsets p)))) first (and-mask x 3)
+    e ∙ ap₂ (λ (q o : ℕ). laneByte table q offsets o) first (and-mask x 3)
 
 -- the first point of each block, in the lent part of an array
 module _ (s : Sizes) (M mask : ℕ) (xs : List ℕ) (limits : Limits s) (others : mask ≡ outside (s .n) M)

@@ -77,7 +77,7 @@ returns-4 c =
     let block : g .gather .result ≡ gather (a .n) (outside (a .n) (a .mixed)) (a .t) = g .gather .ensures ∙ ap (λ (x : ℕ). gather (a .n) x (a .t)) (g .before .outside .ensures) in
     rw (le-leb _ 8 (past .before .before .if1 .left), lt-ltb _ _ (mixed-lt (past .before)), lt-ltb _ _ (fixed-lt past))
     (ap (λ (x : ℕ). a .fixed + x)
-    (c .spread .ensures ∙ ap (spread (a .n) (a .mixed)) (c .before .wide .ensures ∙ ap (at (a .blocks .now)) block)))
+    (c .spread .ensures ∙ ap (spread (a .n) (a .mixed)) (c .before .wide .ensures .0 ∙ ap (at (a .blocks .now)) block)))
 
 pub term-polarity-spec : {M : Type 1} → statement M
 term-polarity-spec =
