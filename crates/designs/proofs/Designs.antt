@@ -24,7 +24,8 @@ use Rattle.expansions.specs.Answers.{blockFunction, memberCoefficient, blockCha
 use Rattle.expansions.specs.Answers.{answerPair, answerMixed, answerFixed, answerPolarity, answerCoefficient}
 use Rattle.search.specs.Expansion.{answerExpansion}
 use Rattle.listings.specs.Parts.{parts, fields, bytes, same}
-use Rattle.listings.specs.Listing.{tabbed, line, descending, digitCount, decimal, cubeByte, cube, outputBytes, formLine, termLine, ifProduct, termLines, listing}
+use Rattle.numbers.specs.Nonzero.{ifNonzero, overNonzero}
+use Rattle.listings.specs.Listing.{tabbed, line, descending, digitCount, decimal, cubeByte, cube, outputBytes, formLine, termLine, listingWith, listing}
 use Rattle.listings.proofs.Words.{same-equal}
 use Rattle.listings.specs.Meaning.{allows, cubeTrue, literalsIn, outputsSaid, finished, linesOf, ofTerm, overLines, overTerms}
 use Rattle.listings.specs.Meaning.{listingValue, listingProducts, listingLiterals, numberSaid, firstNumbers}
@@ -66,7 +67,7 @@ unfolding same agrees allAgree markedDesigns computed termsBelow orTable zeroTab
     putDigit lowDigit dropDigit gather spread outside join polarity counted weight products literals better firstLeast chosen
     blockFunction memberCoefficient blockCharge leastPolarity pairCharge validPair leastPair
     answerPair answerMixed answerFixed answerPolarity answerCoefficient answerExpansion
-    parts fields bytes tabbed line descending digitCount decimal cubeByte cube outputBytes formLine termLine ifProduct termLines listing
+    parts fields bytes tabbed line descending digitCount decimal cubeByte cube outputBytes formLine termLine ifNonzero overNonzero listingWith listing
     allows cubeTrue literalsIn outputsSaid finished linesOf ofTerm overLines overTerms listingValue listingProducts listingLiterals
     numberSaid firstNumbers digit oneDigit mixed digitsFrom wellFormed point bits outputs headed firstLine laterLine
     unfinished ended laterLines judgedFirst allLines reading answerListing refusedLine printedFor printed

@@ -12,12 +12,13 @@ use native.Mathlib.Omega.{arith}
 use lib.ListN.{length, getD, take, drop, length-append, take-append-drop}
 use lib.Seq.{take-suc, length-take-le}
 use Rattle.numbers.specs.Bytes.{at}
+use Rattle.numbers.specs.Nonzero.{ifNonzero, overNonzero}
 use Rattle.numbers.specs.Sums.{foldBelow, sumBelow}
 use Rattle.expansions.specs.Costs.{counted, products}
 use Rattle.expansions.specs.Members.{polarity}
 use Rattle.search.specs.declared.expansion.Expansion.{Expansion}
 use Rattle.listings.specs.Parts.{bytes}
-use Rattle.listings.specs.Listing.{tabbed, line, digitCount, decimal, cube, outputBytes, formLine, termLine, ifProduct, termLines, listing, productLines}
+use Rattle.listings.specs.Listing.{tabbed, line, digitCount, decimal, cube, outputBytes, numbersOf, formLine, termLine, termLines, listingWith, listing, productLines}
 use Rattle.listings.specs.inner.Listable.{Listable}
 use Rattle.listings.specs.inner.Lengths.{digitsOf}
 use Rattle.listings.proofs.Characters.{length-decimal, digitCount-in, length-cube, length-outputs}
@@ -25,7 +26,7 @@ use Rattle.listings.proofs.Characters.{length-decimal, digitCount-in, l
 -- its length, from the digits of its numbers and the number of its products (`length-listing`)
 unfoldable pub listingLength : ℕ → ℕ → ℕ → Expansion → ℕ
 listingLength n m k e =
-    12 + digitsOf (n ∷ m ∷ k ∷ e .mixed ∷ e .fixed ∷ e .products ∷ e .literals ∷ [])
+    12 + digitsOf (numbersOf n m k e)
     + products n (at (e .coefficients)) * (5 + n + 1 + m + 1) + 4
 
 -- ---- numbers, each after a tab
@@ -79,52 +80,40 @@ unfolding termLine line tabbed bytes
 termLine-fields n m t w c =
     simp (append-assoc, append-nil) (ap (λ (l : List ℕ). bytes "term" ++ 9 ∷ l) (append-assoc (cube n t w) (9 ∷ outputBytes m c) (10 ∷ [])))
 
-pub ifProduct-some : (c : ℕ) (l : List ℕ) → (c ≡ 0 → ⊥) → ifProduct c l ≡ l
-unfolding ifProduct
-ifProduct-some zero l h = absurd (h refl)
-ifProduct-some (suc c) l h = refl
-
-pub ifProduct-none : (c : ℕ) (l : List ℕ) → c ≡ 0 → ifProduct c l ≡ []
-unfolding ifProduct
-ifProduct-none c l e = rw e
-
 pub length-termLine : (n m t w c : ℕ) → length (termLine n m t w c) ≡ 5 + n + 1 + m + 1
 unfolding termLine line tabbed bytes
 length-termLine n m t w c = simp (length-append, length-cube, length-outputs) (omega arith)
 
-pub length-ifProduct : (c : ℕ) (l : List ℕ) → length (ifProduct c l) ≡ counted c 1 * length l
-unfolding ifProduct counted
-length-ifProduct zero l = omega arith
-length-ifProduct (suc c) l = omega arith
+pub length-nonzero : (c : ℕ) (l : List ℕ) → length (ifNonzero c l) ≡ counted c 1 * length l
+unfolding ifNonzero counted
+length-nonzero zero l = omega arith
+length-nonzero (suc c) l = omega arith
 
 pub length-termLines : (n m : ℕ) (w c : ℕ → ℕ) (N : ℕ) → length (termLines n m w c N) ≡ sumBelow N (λ t. counted (c t) 1) * (5 + n + 1 + m + 1)
-unfolding termLines foldBelow
+unfolding overNonzero foldBelow
 length-termLines n m w c zero = omega arith
 length-termLines n m w c (suc t) =
-    length-append (termLines n m w c t) (ifProduct (c t) (termLine n m t (w t) (c t)))
-    ∙ rw (length-termLines n m w c t, length-ifProduct, length-termLine) (sym (add-mul (sumBelow t (λ t. counted (c t) 1)) (counted (c t) 1) (5 + n + 1 + m + 1)))
+    length-append (termLines n m w c t) (ifNonzero (c t) (termLine n m t (w t) (c t)))
+    ∙ rw (length-termLines n m w c t, length-nonzero, length-termLine) (sym (add-mul (sumBelow t (λ t. counted (c t) 1)) (counted (c t) 1) (5 + n + 1 + m + 1)))
 
 -- the lines of the terms up to t are no longer than those of all terms
 pub termLines-le : (n m : ℕ) (w c : ℕ → ℕ) (t N : ℕ) → t < N
-    → length (termLines n m w c t) + length (ifProduct (c t) (termLine n m t (w t) (c t))) ≤ length (termLines n m w c N)
-unfolding termLines
+    → length (termLines n m w c t) + length (ifNonzero (c t) (termLine n m t (w t) (c t))) ≤ length (termLines n m w c N)
+unfolding overNonzero
 termLines-le n m w c t zero h = absurd (not-suc-le-zero h)
 termLines-le n m w c t (suc N) h = go (ℕ-discrete t N) (λ g. termLines-le n m w c t N g) where
-  last : length (termLines n m w c (suc N)) ≡ length (termLines n m w c N) + length (ifProduct (c N) (termLine n m N (w N) (c N)))
-  last = length-append (termLines n m w c N) (ifProduct (c N) (termLine n m N (w N) (c N)))
+  last : length (termLines n m w c (suc N)) ≡ length (termLines n m w c N) + length (ifNonzero (c N) (termLine n m N (w N) (c N)))
+  last = length-append (termLines n m w c N) (ifNonzero (c N) (termLine n m N (w N) (c N)))
 
   go : Dec (t ≡ N)
-      → (t < N → length (termLines n m w c t) + length (ifProduct (c t) (termLine n m t (w t) (c t))) ≤ length (termLines n m w c N))
-      → length (termLines n m w c t) + length (ifProduct (c t) (termLine n m t (w t) (c t))) ≤ length (termLines n m w c (suc N))
+      → (t < N → length (termLines n m w c t) + length (ifNonzero (c t) (termLine n m t (w t) (c t))) ≤ length (termLines n m w c N))
+      → length (termLines n m w c t) + length (ifNonzero (c t) (termLine n m t (w t) (c t))) ≤ length (termLines n m w c (suc N))
   go (yes e) ih = rw (last, e) (omega arith)
   go (no e) ih = omega (arith, last, ih (omega arith))
 
-pub length-formLine : (n m k : ℕ) (e : Expansion)
-    → length (formLine n m k e) ≡ 12 + digitsOf (n ∷ m ∷ k ∷ e .mixed ∷ e .fixed ∷ e .products ∷ e .literals ∷ [])
+pub length-formLine : (xs : List ℕ) → length (formLine xs) ≡ 5 + length xs + digitsOf xs
 unfolding formLine line bytes
-length-formLine n m k e =
-    let xs : List ℕ = n ∷ m ∷ k ∷ e .mixed ∷ e .fixed ∷ e .products ∷ e .literals ∷ [] in
-    omega (arith, length-append (tabbed (map decimal xs)) (10 ∷ []), length-numbers xs)
+length-formLine xs = omega (arith, length-append (tabbed (map decimal xs)) (10 ∷ []), length-numbers xs)
 
 -- ---- the listing
 
@@ -132,23 +121,19 @@ length-three : (a b d : List ℕ) → length (a ++ b ++ d) ≡ length a + length
 length-three a b d = omega (arith, length-append (a ++ b) d, length-append a b)
 
 pub length-listing : (n m k : ℕ) (e : Expansion) → length (listing n m k e) ≡ listingLength n m k e
-unfolding listing listingLength products line tabbed bytes
-length-listing n m k e = length-three (formLine n m k e) (termLines n m w c (2 ^ n)) (line (bytes "end") []) ∙ counts where
+unfolding listing listingWith listingLength products line tabbed bytes
+length-listing n m k e = length-three (formLine (numbersOf n m k e)) (termLines n m w c (2 ^ n)) (line (bytes "end") []) ∙ counts where
   w : ℕ → ℕ
   w = polarity n (e .mixed) (e .fixed) (at (e .blocks))
 
   c : ℕ → ℕ
   c = at (e .coefficients)
 
-  counts : length (formLine n m k e) + length (termLines n m w c (2 ^ n)) + 4
-      ≡ 12 + digitsOf (n ∷ m ∷ k ∷ e .mixed ∷ e .fixed ∷ e .products ∷ e .literals ∷ []) + sumBelow (2 ^ n) (λ t. counted (c t) 1) * (5 + n + 1 + m + 1) + 4
-  counts = rw (length-formLine n m k e, length-termLines n m w c (2 ^ n))
+  counts : length (formLine (numbersOf n m k e)) + length (termLines n m w c (2 ^ n)) + 4
+      ≡ 12 + digitsOf (numbersOf n m k e) + sumBelow (2 ^ n) (λ t. counted (c t) 1) * (5 + n + 1 + m + 1) + 4
+  counts = rw (length-formLine (numbersOf n m k e), length-termLines n m w c (2 ^ n))
 
 -- ---- the listing of a record, from the counts that it states
-
--- the numbers of the first line
-abbrev pub numbersOf : ℕ → ℕ → ℕ → Expansion → List ℕ
-numbersOf n m k e = n ∷ m ∷ k ∷ e .mixed ∷ e .fixed ∷ e .products ∷ e .literals ∷ []
 
 -- the lines of its products
 abbrev pub termsOf : ℕ → ℕ → Expansion → List ℕ

@@ -5,13 +5,17 @@ use native.Mathlib.Omega.{arith}
 use Rattle.numbers.specs.Bytes.{at}
 use Rattle.search.proofs.expansion.Answer.{Answered}
 use Rattle.search.specs.declared.expansion.Expansion.{Expansion}
+use Rattle.expansions.specs.Members.{polarity}
 use Rattle.expansions.proofs.Costs.{literals-lt}
-use Rattle.listings.specs.Listing.{listing}
+use Rattle.listings.specs.Listing.{numbersOf, listing}
 use Rattle.listings.specs.inner.Listable.{Listable}
 use Rattle.listings.specs.Meaning.{listingValue, listingProducts, listingLiterals, statedProducts, statedLiterals, IsListing}
 use Rattle.listings.proofs.Meaning.{listing-value, listing-products, listing-literals, stated-products, stated-literals}
 
 module _ (n m k : ℕ) (e : Expansion) (f : ℕ → ℕ) (hn : n ≤ 8) (hm : m ≤ 8) (hk : k ≤ 3) (minimal : Answered n k f e) where
+  w : ℕ → ℕ
+  w = polarity n (e .mixed) (e .fixed) (at (e .blocks))
+
   pub answer-listable : Listable n m e
   answer-listable =
       record { inputs = hn; outputs = hm; mixed = minimal .answer .member .mask; fixed = minimal .answer .member .fixed; counted = minimal .products-counted }
@@ -20,22 +24,23 @@ module _ (n m k : ℕ) (e : Expansion) (f : ℕ → ℕ) (hn : n ≤ 8) (hm : m 
   few = omega (arith, minimal .literals-counted, literals-lt n (at (e .coefficients)) hn)
 
   answer-given : ((t : ℕ) → t < 2 ^ n → at (e .coefficients) t < 2 ^ m) → (p : ℕ) → p < 2 ^ n → listingValue (listing n m k e) p ≡ f p
-  answer-given small p h = listing-value n m k e small p ∙ minimal .answer .gives p h
+  unfolding listing w
+  answer-given small p h = listing-value (numbersOf n m k e) n m w (at (e .coefficients)) small p ∙ minimal .answer .gives p h
 
-  answer-products : statedProducts (listing n m k e) ≡ listingProducts (listing n m k e)
-  answer-products = stated-products n m k e answer-listable (omega arith) few ∙ minimal .products-counted ∙ sym (listing-products n m k e)
+  counts-products : listingProducts (listing n m k e) ≡ e .products
+  unfolding listing w
+  counts-products = listing-products (numbersOf n m k e) n m w (at (e .coefficients)) ∙ sym (minimal .products-counted)
 
-  answer-literals : statedLiterals (listing n m k e) ≡ listingLiterals (listing n m k e)
-  answer-literals = stated-literals n m k e answer-listable (omega arith) few ∙ minimal .literals-counted ∙ sym (listing-literals n m k e)
+  counts-literals : listingLiterals (listing n m k e) ≡ e .literals
+  unfolding listing w
+  counts-literals = listing-literals (numbersOf n m k e) n m w (at (e .coefficients)) ∙ sym (minimal .literals-counted)
 
   -- demand 3
   pub answer-listed : ((t : ℕ) → t < 2 ^ n → at (e .coefficients) t < 2 ^ m) → IsListing n k f (listing n m k e)
   answer-listed small =
       record {
         gives = answer-given small;
-        products-stated = answer-products;
-        literals-stated = answer-literals;
-        cheapest = λ M i φ c member gives.
-            rw (listing-products n m k e ∙ sym (minimal .products-counted), listing-literals n m k e ∙ sym (minimal .literals-counted))
-            (minimal .cheapest M i φ c member gives);
+        products-stated = stated-products n m k e answer-listable (omega arith) few ∙ sym counts-products;
+        literals-stated = stated-literals n m k e answer-listable (omega arith) few ∙ sym counts-literals;
+        cheapest = λ M i φ c member gives. rw (counts-products, counts-literals) (minimal .cheapest M i φ c member gives);
       }

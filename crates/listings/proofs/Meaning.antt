@@ -12,6 +12,7 @@ use lib.Dec.{lit<}
 use lib.ListN.{getD}
 use lib.Pow.{pow-mono}
 use Rattle.numbers.specs.Bytes.{at}
+use Rattle.numbers.specs.Nonzero.{ifNonzero, overNonzero}
 use Rattle.numbers.specs.Sums.{foldBelow}
 use Rattle.numbers.specs.Bits.{bit}
 use Rattle.numbers.specs.Tests.{only}
@@ -24,13 +25,12 @@ use Rattle.expansions.specs.Members.{polarity}
 use Rattle.search.specs.declared.expansion.Expansion.{Expansion}
 use Rattle.expansions.proofs.Costs.{products-le}
 use Rattle.listings.specs.Parts.{parts, bytes, same, fields}
-use Rattle.listings.specs.Listing.{tabbed, line, digitCount, decimal, cubeByte, cube, outputBytes, formLine, termLine, ifProduct, termLines, listing}
+use Rattle.listings.specs.Listing.{tabbed, line, digitCount, decimal, cubeByte, cube, outputBytes, numbersOf, formLine, termLine, termLines, listingWith, listing}
 use Rattle.listings.specs.inner.Listable.{Listable}
 use Rattle.listings.specs.Meaning.{cubeTrue, literalsIn, outputsSaid, finished, linesOf, ofTerm, overLines, overTerms}
 use Rattle.listings.specs.Meaning.{listingValue, listingProducts, listingLiterals, numberSaid, firstNumbers, statedProducts, statedLiterals}
 use Rattle.listings.proofs.Joined.{Plain, AllPlain, plain-descending, plain-tabulate, parts-fields, parts-lines}
 use Rattle.listings.proofs.Cubes.{cube-holds, cube-literals, outputs-said, decimal-said}
-use Rattle.listings.proofs.Lengths.{numbersOf, termsOf}
 
 -- ---- the fields of a listing are free of separators
 
@@ -48,7 +48,7 @@ plain-cubeByte zero w = lit< tt
 plain-cubeByte (suc t) zero = lit< tt
 plain-cubeByte (suc t) (suc w) = lit< tt
 
-plain-cube : (n t w : ℕ) → Plain (cube n t w)
+pub plain-cube : (n t w : ℕ) → Plain (cube n t w)
 unfolding cube
 plain-cube n t w = plain-descending n (λ i. cubeByte (bit i t) (bit i w)) (λ i. plain-cubeByte (bit i t) (bit i w))
 
@@ -56,15 +56,15 @@ pub plain-outputs : (m c : ℕ) → Plain (outputBytes m c)
 unfolding outputBytes
 plain-outputs m c = plain-tabulate m (λ o. 48 + bit o c) (λ o. omega arith)
 
-plain-form : Plain (bytes "form")
+pub plain-form : Plain (bytes "form")
 unfolding bytes
 plain-form = (lit< tt, (lit< tt, (lit< tt, (lit< tt, tt))))
 
-plain-term : Plain (bytes "term")
+pub plain-term : Plain (bytes "term")
 unfolding bytes
 plain-term = (lit< tt, (lit< tt, (lit< tt, (lit< tt, tt))))
 
-plain-end : Plain (bytes "end")
+pub plain-end : Plain (bytes "end")
 unfolding bytes
 plain-end = (lit< tt, (lit< tt, (lit< tt, tt)))
 
@@ -78,33 +78,34 @@ module _ (op : ℕ → ℕ → ℕ) (assoc : (a b c : ℕ) → op (op a b) c ≡
   over-line word fs s p ps = rw (parts-lines word fs s p ps, parts-fields word fs p ps)
 
   over-product : (n m t w c : ℕ) (s : List ℕ)
-      → overTerms op g (ifProduct c (termLine n m t w c) ++ s) ≡ op (counted c (g (cube n t w) (outputBytes m c))) (overTerms op g s)
-  unfolding ifProduct counted termLine bytes same only
+      → overTerms op g (ifNonzero c (termLine n m t w c) ++ s) ≡ op (counted c (g (cube n t w) (outputBytes m c))) (overTerms op g s)
+  unfolding ifNonzero counted termLine bytes same only
   over-product n m t w zero s = sym (left (overTerms op g s))
   over-product n m t w (suc c) s =
       over-line (bytes "term") (cube n t w ∷ outputBytes m (suc c) ∷ []) s plain-term (plain-cube n t w, (plain-outputs m (suc c), tt))
 
   over-terms : (n m : ℕ) (w c : ℕ → ℕ) (N : ℕ) (s : List ℕ)
       → overTerms op g (termLines n m w c N ++ s) ≡ op (foldBelow op N (λ t. counted (c t) (g (cube n t (w t)) (outputBytes m (c t))))) (overTerms op g s)
-  unfolding termLines foldBelow
+  unfolding overNonzero foldBelow
   over-terms n m w c zero s = sym (left (overTerms op g s))
   over-terms n m w c (suc t) s =
-      rw (append-assoc (termLines n m w c t) (ifProduct (c t) (termLine n m t (w t) (c t))) s)
-      (over-terms n m w c t (ifProduct (c t) (termLine n m t (w t) (c t)) ++ s)
+      rw (append-assoc (termLines n m w c t) (ifNonzero (c t) (termLine n m t (w t) (c t))) s)
+      (over-terms n m w c t (ifNonzero (c t) (termLine n m t (w t) (c t)) ++ s)
       ∙ rw (over-product n m t (w t) (c t) s) (sym (assoc _ _ _)))
 
   over-end : overTerms op g (line (bytes "end") []) ≡ 0
   unfolding line tabbed bytes same only overTerms overLines linesOf finished parts
   over-end = over-line (bytes "end") [] [] plain-end tt ∙ left 0
 
-  pub over-listing : (n m k : ℕ) (e : Expansion) → let w = polarity n (e .mixed) (e .fixed) (at (e .blocks)) in let c = at (e .coefficients) in
-      overTerms op g (listing n m k e) ≡ foldBelow op (2 ^ n) (λ t. counted (c t) (g (cube n t (w t)) (outputBytes m (c t))))
-  unfolding listing formLine bytes same only
-  over-listing n m k e =
-      ap (overTerms op g) (append-assoc (formLine n m k e) (termsOf n m e) (line (bytes "end") []))
-      ∙ over-line (bytes "form") (map decimal (numbersOf n m k e)) (termsOf n m e ++ line (bytes "end") []) plain-form (plain-numbers (numbersOf n m k e))
-      ∙ left (overTerms op g (termsOf n m e ++ line (bytes "end") []))
-      ∙ over-terms n m (polarity n (e .mixed) (e .fixed) (at (e .blocks))) (at (e .coefficients)) (2 ^ n) (line (bytes "end") [])
+  pub over-listing : (numbers : List ℕ) (n m : ℕ) (w c : ℕ → ℕ)
+      → overTerms op g (listingWith numbers n m w c) ≡ foldBelow op (2 ^ n) (λ t. counted (c t) (g (cube n t (w t)) (outputBytes m (c t))))
+  unfolding listingWith formLine bytes same only
+  over-listing numbers n m w c =
+      let terms : List ℕ = termLines n m w c (2 ^ n) in
+      ap (overTerms op g) (append-assoc (formLine numbers) terms (line (bytes "end") []))
+      ∙ over-line (bytes "form") (map decimal numbers) (terms ++ line (bytes "end") []) plain-form (plain-numbers numbers)
+      ∙ left (overTerms op g (terms ++ line (bytes "end") []))
+      ∙ over-terms n m w c (2 ^ n) (line (bytes "end") [])
       ∙ rw over-end (right _)
 
 -- ---- the value at a point, the products and the literals
@@ -114,33 +115,26 @@ unfolding counted
 counted-only zero b = sym (only-zero b)
 counted-only (suc c) b = refl
 
-module _ (n m k : ℕ) (e : Expansion) where
-  pub listing-value : ((t : ℕ) → t < 2 ^ n → at (e .coefficients) t < 2 ^ m) → (p : ℕ)
-      → listingValue (listing n m k e) p ≡ value n (polarity n (e .mixed) (e .fixed) (at (e .blocks))) (at (e .coefficients)) p
+module _ (numbers : List ℕ) (n m : ℕ) (w c : ℕ → ℕ) where
+  pub listing-value : ((t : ℕ) → t < 2 ^ n → c t < 2 ^ m) → (p : ℕ) → listingValue (listingWith numbers n m w c) p ≡ value n w c p
   unfolding listingValue value
   listing-value small p =
-      over-listing bitXor xor-assoc (λ a. xor-comm 0 a ∙ xor-zero-r a) xor-zero-r (λ cube outputs. only (cubeTrue cube p) (outputsSaid outputs)) n m k e
+      over-listing bitXor xor-assoc (λ a. xor-comm 0 a ∙ xor-zero-r a) xor-zero-r (λ cube outputs. only (cubeTrue cube p) (outputsSaid outputs)) numbers n m w c
       ∙ fold-ext bitXor (2 ^ n) _ _ same-term
     where
-      w : ℕ → ℕ
-      w = polarity n (e .mixed) (e .fixed) (at (e .blocks))
-
-      c : ℕ → ℕ
-      c = at (e .coefficients)
-
       same-term : (t : ℕ) → t < 2 ^ n
           → counted (c t) (only (cubeTrue (cube n t (w t)) p) (outputsSaid (outputBytes m (c t)))) ≡ only (holds t (w t) p) (c t)
       same-term t l = rw (cube-holds n t (w t) p l, outputs-said m (c t) (small t l)) (counted-only (c t) (holds t (w t) p))
 
-  pub listing-products : listingProducts (listing n m k e) ≡ products n (at (e .coefficients))
+  pub listing-products : listingProducts (listingWith numbers n m w c) ≡ products n c
   unfolding listingProducts products
-  listing-products = over-listing _+_ add-assoc zero-add add-zero (λ cube outputs. 1) n m k e
+  listing-products = over-listing _+_ add-assoc zero-add add-zero (λ cube outputs. 1) numbers n m w c
 
-  pub listing-literals : listingLiterals (listing n m k e) ≡ literals n (at (e .coefficients))
+  pub listing-literals : listingLiterals (listingWith numbers n m w c) ≡ literals n c
   unfolding listingLiterals literals
   listing-literals =
-      over-listing _+_ add-assoc zero-add add-zero (λ cube outputs. literalsIn cube) n m k e
-      ∙ fold-ext _+_ (2 ^ n) _ _ (λ t l. ap (λ (x : ℕ). counted (at (e .coefficients) t) x) (cube-literals n t _ l))
+      over-listing _+_ add-assoc zero-add add-zero (λ cube outputs. literalsIn cube) numbers n m w c
+      ∙ fold-ext _+_ (2 ^ n) _ _ (λ t l. ap (λ (x : ℕ). counted (c t) x) (cube-literals n t _ l))
 
 -- ---- the numbers of the first line
 
@@ -153,6 +147,18 @@ pub numbers-said : (xs : List ℕ) → Small xs → map (numberSaid 0) (map deci
 numbers-said [] h = refl
 numbers-said (x ∷ xs) h = rw (decimal-said x (h .0), numbers-said xs (h .1))
 
+-- the numbers that a listing states on its first line
+pub listing-numbers : (numbers : List ℕ) (n m : ℕ) (w c : ℕ → ℕ) → Small numbers → firstNumbers (listingWith numbers n m w c) ≡ numbers
+unfolding firstNumbers listingWith formLine
+listing-numbers numbers n m w c small =
+    let after : List ℕ = termLines n m w c (2 ^ n) ++ line (bytes "end") [] in
+    ap firstNumbers (append-assoc (formLine numbers) (termLines n m w c (2 ^ n)) (line (bytes "end") []))
+    ∙ rw (
+      parts-lines (bytes "form") (map decimal numbers) after plain-form (plain-numbers numbers),
+      parts-fields (bytes "form") (map decimal numbers) plain-form (plain-numbers numbers),
+    )
+    (numbers-said numbers small)
+
 module _ (n m k : ℕ) (e : Expansion) (f : Listable n m e) (digit : k < 10) (few : e .literals < 10000) where
   small-numbers : Small (numbersOf n m k e)
   small-numbers =
@@ -161,18 +167,12 @@ module _ (n m k : ℕ) (e : Expansion) (f : Listable n m e) (digit : k < 10) (fe
       (omega arith, (omega arith, (omega arith, (omega arith, (omega arith, (omega arith, (few, tt)))))))
 
   -- n, m, k, M, i, products and literals
-  pub listing-numbers : firstNumbers (listing n m k e) ≡ numbersOf n m k e
-  unfolding firstNumbers listing formLine
-  listing-numbers =
-      ap firstNumbers (append-assoc (formLine n m k e) (termsOf n m e) (line (bytes "end") []))
-      ∙ rw (
-        parts-lines (bytes "form") (map decimal (numbersOf n m k e)) (termsOf n m e ++ line (bytes "end") []) plain-form (plain-numbers (numbersOf n m k e)),
-        parts-fields (bytes "form") (map decimal (numbersOf n m k e)) plain-form (plain-numbers (numbersOf n m k e)),
-      )
-      (numbers-said (numbersOf n m k e) small-numbers)
+  stated-numbers : firstNumbers (listing n m k e) ≡ numbersOf n m k e
+  unfolding listing
+  stated-numbers = listing-numbers (numbersOf n m k e) n m (polarity n (e .mixed) (e .fixed) (at (e .blocks))) (at (e .coefficients)) small-numbers
 
   pub stated-products : statedProducts (listing n m k e) ≡ e .products
-  stated-products = ap (λ (xs : List ℕ). getD xs 5 0) listing-numbers
+  stated-products = ap (λ (xs : List ℕ). getD xs 5 0) stated-numbers
 
   pub stated-literals : statedLiterals (listing n m k e) ≡ e .literals
-  stated-literals = ap (λ (xs : List ℕ). getD xs 6 0) listing-numbers
+  stated-literals = ap (λ (xs : List ℕ). getD xs 6 0) stated-numbers

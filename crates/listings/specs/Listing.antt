@@ -5,8 +5,8 @@ use Prim.Native.Nat.{ℕ, zero, suc, _+_, _/_, _%_, _^_}
 use lib.Dec.{ltb}
 use Rattle.numbers.specs.Bytes.{at, tabulate}
 use Rattle.numbers.specs.Bits.{bit}
+use Rattle.numbers.specs.Nonzero.{overNonzero}
 use Rattle.expansions.specs.Members.{polarity}
-use Rattle.expansions.specs.Costs.{products}
 use Rattle.search.specs.declared.expansion.Expansion.{Expansion}
 use Rattle.listings.specs.Parts.{bytes}
 
@@ -55,29 +55,31 @@ outputBytes m c = tabulate m (λ o. 48 + bit o c)
 
 -- ---- the listing
 
+-- the numbers of the first line: "n, m, k (a digit), M, i, products, literals"
+abbrev pub numbersOf : ℕ → ℕ → ℕ → Expansion → List ℕ
+numbersOf n m k e = n ∷ m ∷ k ∷ e .mixed ∷ e .fixed ∷ e .products ∷ e .literals ∷ []
+
 -- "`form`, n, m, k (a digit), M, i, products, literals."
-unfoldable pub formLine : ℕ → ℕ → ℕ → Expansion → List ℕ
-formLine n m k e = line (bytes "form") (map decimal (n ∷ m ∷ k ∷ e .mixed ∷ e .fixed ∷ e .products ∷ e .literals ∷ []))
+unfoldable pub formLine : List ℕ → List ℕ
+formLine numbers = line (bytes "form") (map decimal numbers)
 
 -- "`term`, cube, outputs": the term t under the polarity w, with the coefficient c
 unfoldable pub termLine : ℕ → ℕ → ℕ → ℕ → ℕ → List ℕ
 termLine n m t w c = line (bytes "term") (cube n t w ∷ outputBytes m c ∷ [])
 
--- a term's line where its coefficient is not 0, and no byte where it is: "Products are the terms with c[t] not 0"
-unfoldable pub ifProduct : ℕ → List ℕ → List ℕ
-ifProduct zero l = []
-ifProduct (suc c) l = l
-
--- the lines of the products among the terms below N, "ascending by t"; w t is the polarity of the term t, and c t its coefficient
-unfoldable pub termLines : ℕ → ℕ → (ℕ → ℕ) → (ℕ → ℕ) → ℕ → List ℕ
-termLines n m w c zero = []
-termLines n m w c (suc t) = termLines n m w c t ++ ifProduct (c t) (termLine n m t (w t) (c t))
+-- the lines of the products among the terms below N, "ascending by t"; w t is the polarity of the term t, and c t its coefficient: "Products
+-- are the terms with c[t] not 0"
+abbrev pub termLines : ℕ → ℕ → (ℕ → ℕ) → (ℕ → ℕ) → ℕ → List ℕ
+termLines n m w c N = overNonzero (λ t. termLine n m t (w t) (c t)) c N
 
 -- "One line for each product, ascending by t", of the member M, i, φ with the coefficients c
 abbrev pub productLines : ℕ → ℕ → ℕ → ℕ → (ℕ → ℕ) → (ℕ → ℕ) → List ℕ
 productLines n m M i φ c = termLines n m (polarity n M i φ) c (2 ^ n)
 
+-- a whole listing with these numbers on its first line, of n inputs and m outputs: each term t has the polarity w t and the coefficient c t
+unfoldable pub listingWith : List ℕ → ℕ → ℕ → (ℕ → ℕ) → (ℕ → ℕ) → List ℕ
+listingWith numbers n m w c = formLine numbers ++ termLines n m w c (2 ^ n) ++ line (bytes "end") []
+
 -- the whole listing of the expansion e, of n inputs, m outputs and k mixed inputs
 unfoldable pub listing : ℕ → ℕ → ℕ → Expansion → List ℕ
-listing n m k e =
-    formLine n m k e ++ productLines n m (e .mixed) (e .fixed) (at (e .blocks)) (at (e .coefficients)) ++ line (bytes "end") []
+listing n m k e = listingWith (numbersOf n m k e) n m (polarity n (e .mixed) (e .fixed) (at (e .blocks))) (at (e .coefficients))

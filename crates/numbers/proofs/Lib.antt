@@ -7,4 +7,5 @@ pub mod Shifts
 pub mod Sums
 pub mod Pack
 pub mod Words
+pub mod Nonzero
 pub mod Flips

@@ -4,3 +4,4 @@ pub mod Bytes
 pub mod Sums
 pub mod Refusals
 pub mod Words
+pub mod Nonzero

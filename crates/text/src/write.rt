@@ -9,8 +9,9 @@ ghost use mathlib.Core.List.{[], map};
 ghost use Prim.Native.Nat.{_+_, _*_, _^_, _≤_, _<_};
 ghost use lib.ListN.{length};
 ghost use Rattle.numbers.specs.Bytes.{at};
+ghost use Rattle.numbers.specs.Nonzero.{ifNonzero};
 ghost use Rattle.listings.specs.Parts.{bytes};
-ghost use Rattle.listings.specs.Listing.{tabbed, line, decimal, ifProduct, termLine, productLines};
+ghost use Rattle.listings.specs.Listing.{tabbed, line, decimal, termLine, productLines};
 ghost use Rattle.listings.specs.inner.Listable.{Listable};
 ghost use Rattle.listings.specs.inner.Lengths.{digitsOf};
 ghost use Rattle.text.specs.inner.Write.{Put, WriteListing};
@@ -74,8 +75,8 @@ fn write_term(
     w: usize,
     c: u8,
 ) -> Writer
-    requires { ⌜ (n ≤ 8) × (m ≤ 8) × (start .at + length (ifProduct c (termLine n m t w c)) ≤ length (now out)) ⌝ }
-    ensures { λ r. ⌜ Put (now (out .entry)) (start .at) (ifProduct c (termLine n m t w c)) (now (out .exit)) (r .at) ⌝ }
+    requires { ⌜ (n ≤ 8) × (m ≤ 8) × (start .at + length (ifNonzero c (termLine n m t w c)) ≤ length (now out)) ⌝ }
+    ensures { λ r. ⌜ Put (now (out .entry)) (start .at) (ifNonzero c (termLine n m t w c)) (now (out .exit)) (r .at) ⌝ }
 {
     if c == 0 {
         return start;

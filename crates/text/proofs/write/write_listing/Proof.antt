@@ -2,11 +2,11 @@
 use borrow.Author.Needs.{needs}
 use Prim.Native.Nat.{_+_, _*_, _≤_}
 use lib.ListN.{length}
-use Rattle.listings.specs.Listing.{formLine, listing}
+use Rattle.listings.specs.Listing.{numbersOf, formLine, listingWith, listing}
 use Rattle.listings.specs.inner.Lengths.{digitsOf}
 use Rattle.text.specs.inner.Write.{Put}
 use Rattle.text.proofs.writer.Puts.{put-then, put-length}
-use Rattle.listings.proofs.Lengths.{digitsOf-le, length-formLine, numbersOf, length-products, length-stated, products-small}
+use Rattle.listings.proofs.Lengths.{digitsOf-le, length-formLine, length-products, length-stated, products-small}
 use Rattle.text.proofs.write.Listings.{listing-written, listing-short}
 use native.Mathlib.Omega.{arith}
 use Rattle.text.proofs.write.write_listing.Statement.{statement}
@@ -15,7 +15,7 @@ use Rattle.text.proofs.write.write_listing.Tie as tie
 -- the first line is written
 form : (c : tie.After-write-form)
     → let a = c .before .before .before .before .before .before .before .before .before .before .args in
-    Put (a .out .now) 0 (formLine (a .n) (a .m) (a .k) (a .e)) (c .write-form .last .1 .0) (c .write-form .result .at)
+    Put (a .out .now) 0 (formLine (numbersOf (a .n) (a .m) (a .k) (a .e))) (c .write-form .last .1 .0) (c .write-form .result .at)
 unfolding formLine
 form c = c .write-form .ensures
 
@@ -75,7 +75,7 @@ write-terms-requires c κs =
     let a = s .args in
     let f = form p in (
       (s .pre .inputs, s .pre .outputs, s .pre .mixed, s .pre .fixed),
-      omega (arith, room r, f .to, put-length f, length-formLine (a .n) (a .m) (a .k) (a .e), length-products (a .n) (a .m) (a .e) (s .pre)),
+      omega (arith, room r, f .to, put-length f, length-formLine (numbersOf (a .n) (a .m) (a .k) (a .e)), length-products (a .n) (a .m) (a .e) (s .pre)),
     )
 
 write-end-requires : tie.Need-write-end-requires
@@ -87,13 +87,13 @@ write-end-requires c κs =
     let a = s .args in
     let f = form p in
     let terms = t .write-terms .ensures in
-    omega (arith, room r, f .to, put-length f, length-formLine (a .n) (a .m) (a .k) (a .e), terms .to, put-length terms, length-products (a .n) (a .m) (a .e) (s .pre))
+    omega (arith, room r, f .to, put-length f, length-formLine (numbersOf (a .n) (a .m) (a .k) (a .e)), terms .to, put-length terms, length-products (a .n) (a .m) (a .e) (s .pre))
 
 same-length : tie.Need-same-length
 same-length c = search needs
 
 returns-2 : tie.Need-returns-2
-unfolding listing
+unfolding listing listingWith
 returns-2 c =
     let d = c .before .before in
     let t = d .before .before .before .before in

@@ -7,7 +7,8 @@ use Rattle.listings.specs.Parts.{bytes}
 use Rattle.listings.specs.Listing.{termLine}
 use Rattle.text.proofs.writer.Puts.{put-none, put-then, put-length}
 use Rattle.listings.proofs.Characters.{length-cube, length-outputs}
-use Rattle.listings.proofs.Lengths.{ifProduct-none, ifProduct-some, length-termLine, termLine-fields}
+use Rattle.numbers.proofs.Nonzero.{nonzero-none, nonzero-some}
+use Rattle.listings.proofs.Lengths.{length-termLine, termLine-fields}
 use native.Mathlib.Omega.{arith}
 use Rattle.text.proofs.write.write_term.Statement.{statement}
 use Rattle.text.proofs.write.write_term.Tie as tie
@@ -17,10 +18,10 @@ room : (c : tie.Else1) → let a = c .before .before .args in a .start .at + (5 
 room c =
     let s = c .before .before in
     let a = s .args in
-    omega (arith, s .pre .2, ap length (ifProduct-some (a .c) (termLine (a .n) (a .m) (a .t) (a .w) (a .c)) (c .if1 .left)), length-termLine (a .n) (a .m) (a .t) (a .w) (a .c))
+    omega (arith, s .pre .2, ap length (nonzero-some (a .c) (termLine (a .n) (a .m) (a .t) (a .w) (a .c)) (c .if1 .left)), length-termLine (a .n) (a .m) (a .t) (a .w) (a .c))
 
 returns : tie.Need-returns
-returns c = rw (ifProduct-none _ _ (c .if1 .taken)) (put-none _ _)
+returns c = rw (nonzero-none _ _ (c .if1 .taken)) (put-none _ _)
 
 slice-aggregate-word : tie.Need-slice-aggregate-word
 slice-aggregate-word c = search needs
@@ -99,7 +100,7 @@ returns-2 c =
     let a = word .before .before .before .before .before .args in
     let term = put-then (word .word .ensures) (tab .byte .ensures) in
     let fields = put-then (put-then (put-then term (cube .cube .ensures)) (next .byte2 .ensures)) (outputs .outputs .ensures) in
-    let some = ifProduct-some (a .c) (termLine (a .n) (a .m) (a .t) (a .w) (a .c)) (word .before .before .before .if1 .left) in
+    let some = nonzero-some (a .c) (termLine (a .n) (a .m) (a .t) (a .w) (a .c)) (word .before .before .before .if1 .left) in
     rw (some, termLine-fields (a .n) (a .m) (a .t) (a .w) (a .c)) (put-then fields (end .byte3 .ensures))
 
 pub write-term-spec : {M : Type 1} → statement M

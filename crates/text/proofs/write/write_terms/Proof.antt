@@ -7,6 +7,7 @@ use Rattle.numbers.specs.Bytes.{at}
 use Rattle.expansions.specs.Members.{polarity}
 use Rattle.search.specs.Expansion.{termPolarity}
 use Rattle.search.proofs.polarity.Fitting.{termPolarity-fits}
+use Rattle.numbers.specs.Nonzero.{overNonzero}
 use Rattle.listings.specs.Listing.{termLines}
 use Rattle.text.specs.inner.Write.{Put}
 use Rattle.text.proofs.writer.Puts.{put-none, put-then, put-length}
@@ -33,7 +34,7 @@ fits : (s : tie.Start Inv-loop μ-loop) (t : ℕ)
 fits s t = termPolarity-fits _ _ _ _ t (s .pre .0 .0) (s .pre .0 .2) (s .pre .0 .3)
 
 loop-holds : tie.Need-loop-holds Inv-loop μ-loop
-unfolding termLines
+unfolding overNonzero
 loop-holds c = (omega arith, put-none _ _)
 
 term-polarity-requires : tie.Need-term-polarity-requires Inv-loop μ-loop
@@ -71,7 +72,7 @@ loop-less c =
     omega (arith, c .before .before .before .before .before .before .loop-test .taken, one-shifted (s .args .n) (omega (arith, s .pre .0 .0)))
 
 loop-again : tie.Need-loop-again Inv-loop μ-loop
-unfolding termLines
+unfolding overNonzero
 loop-again c =
     let l = c .before .before .before .before .before .before .before in
     let s = l .before .before in (
