@@ -2,4 +2,3 @@
 pub mod compile;
 pub mod print;
 mod write;
-mod writer;

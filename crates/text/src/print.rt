@@ -2,11 +2,12 @@
 // The main property, for every input: the bytes handed out begin with `printed input` of specs/Print.antt, and `length` is how many they are.
 use crate::compile::Compiled;
 use crate::compile::compile;
-use crate::writer::Writer;
+use writing::line::write_line;
+use writing::writer::Writer;
 ghost use mathlib.Core.Path.{_≡_};
 ghost use Prim.Native.Nat.{_≤_};
 ghost use lib.ListN.{length, take};
-ghost use Rattle.text.specs.inner.Write.{Put};
+ghost use Rattle.writing.specs.Put.{Put};
 ghost use Rattle.text.specs.Print.{judged, refusedLine, Print};
 
 // What is printed: the first `length` of the bytes. The bytes past them are zero.
@@ -24,7 +25,7 @@ impl Printed {
 }
 
 // How many bytes of the input are judged.
-fn judged_length(input: &[u8]) -> usize
+pub fn judged_length(input: &[u8]) -> usize
     ensures { λ r. ⌜ (r ≤ length (now (input .entry))) × (take r (now (input .entry)) ≡ judged (now (input .entry))) ⌝ }
 {
     if input.len() < Printed::INPUT_BYTES {
@@ -34,16 +35,12 @@ fn judged_length(input: &[u8]) -> usize
     }
 }
 
-// Writes the line `refused`, number, line into the front of `out`, which has room for the longest listing, and gives the line's length.
-fn write_refused(number: usize, line: usize, out: &mut [u8]) -> usize
-    requires { ⌜ length (now out) ≡ 5916 ⌝ }
+// Writes the line `refused`, number, line into the front of `out`, and gives the line's length.
+pub fn write_refused(number: usize, line: usize, out: &mut [u8]) -> usize
+    requires { ⌜ 18 ≤ length (now out) ⌝ }
     ensures { λ r. ⌜ Put (now (out .entry)) 0 (refusedLine number line) (now (out .exit)) r ⌝ }
 {
-    let start = Writer { at: 0 };
-    let word = start.word(out, b"refused");
-    let first = word.byte(out, b'\t').number(out, number);
-    let second = first.byte(out, b'\t').number(out, line);
-    let stop = second.byte(out, b'\n');
+    let stop = write_line(Writer { at: 0 }, out, b"refused", &[number, line]);
     stop.at
 }
 

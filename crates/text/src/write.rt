@@ -1,20 +1,22 @@
 // Writing the listing of an expansion into a lent buffer. Its length is known before the first byte is written, so a buffer that is too
 // short is left as it was. The main property: the bytes written are `listing` of crates/listings/specs/Listing, and the bytes past them are as they were.
-use crate::writer::Writer;
-use crate::writer::digit_count;
 use search::expansion::Expansion;
 use search::polarity::term_polarity;
+use writing::line::digits_of;
+use writing::line::write_line;
+use writing::writer::Writer;
 ghost use mathlib.Core.Path.{_≡_};
-ghost use mathlib.Core.List.{[], map};
+ghost use mathlib.Core.List.{[]};
 ghost use Prim.Native.Nat.{_+_, _*_, _^_, _≤_, _<_};
 ghost use lib.ListN.{length};
 ghost use Rattle.numbers.specs.Bytes.{at};
 ghost use Rattle.numbers.specs.Nonzero.{ifNonzero};
 ghost use Rattle.listings.specs.Parts.{bytes};
-ghost use Rattle.listings.specs.Listing.{tabbed, line, decimal, termLine, productLines};
+ghost use Rattle.listings.specs.Listing.{line, formLine, termLine, productLines};
 ghost use Rattle.listings.specs.inner.Listable.{Listable};
 ghost use Rattle.listings.specs.inner.Lengths.{digitsOf};
-ghost use Rattle.text.specs.inner.Write.{Put, WriteListing};
+ghost use Rattle.writing.specs.Put.{Put};
+ghost use Rattle.text.specs.inner.Write.{WriteListing};
 
 // The answer of `write_listing`: the listing's length, or that the buffer is shorter than the listing, which is refusal 10.
 pub enum Listed {
@@ -28,41 +30,12 @@ const FRAME: usize = 16;
 // The bytes of a line `term` besides its cube and its outputs: the word, two tabs and the line end.
 const TERM: usize = 7;
 
-// How many digits the numbers of the first line have, together.
-fn digits_of(numbers: &[usize]) -> usize
-    requires { ⌜ length (now numbers) ≤ 7 ⌝ }
-    ensures { λ r. ⌜ r ≡ digitsOf (now (numbers .entry)) ⌝ }
-{
-    let mut digits: usize = 0;
-    let mut j: usize = 0;
-    while j < numbers.len() {
-        digits += digit_count(numbers[j]);
-        j += 1;
-    }
-    digits
-}
-
-// The numbers of the first line, each after a tab.
-fn write_numbers(start: Writer, out: &mut [u8], numbers: &[usize]) -> Writer
-    requires { ⌜ (length (now numbers) ≤ 7) × (start .at + (length (now numbers) + digitsOf (now numbers)) ≤ length (now out)) ⌝ }
-    ensures { λ r. ⌜ Put (now (out .entry)) (start .at) (tabbed (map decimal (now (numbers .entry)))) (now (out .exit)) (r .at) ⌝ }
-{
-    let mut place = start;
-    let mut j: usize = 0;
-    while j < numbers.len() {
-        place = place.byte(out, b'\t').number(out, numbers[j]);
-        j += 1;
-    }
-    place
-}
-
 // The first line: `form` and the numbers.
 fn write_form(start: Writer, out: &mut [u8], numbers: &[usize]) -> Writer
     requires { ⌜ (length (now numbers) ≤ 7) × (start .at + (5 + length (now numbers) + digitsOf (now numbers)) ≤ length (now out)) ⌝ }
-    ensures { λ r. ⌜ Put (now (out .entry)) (start .at) (line (bytes "form") (map decimal (now (numbers .entry)))) (now (out .exit)) (r .at) ⌝ }
+    ensures { λ r. ⌜ Put (now (out .entry)) (start .at) (formLine (now (numbers .entry))) (now (out .exit)) (r .at) ⌝ }
 {
-    let fields = start.word(out, b"form");
-    write_numbers(fields, out, numbers).byte(out, b'\n')
+    write_line(start, out, b"form", numbers)
 }
 
 // The line of the term t under the polarity w, where its coefficient c is not 0, and nothing where it is.

@@ -1,7 +1,7 @@
 -- The refusal of a text: its number is 1 to 6, and its line is at least 1 and at most one more than the text has bytes (`reading-refused`).
 -- So the two numbers of the line `refused` that is printed have at most four digits, and the line says them back (`refusal-said`).
 use mathlib.Core.Bool.{Bool, true, false, cond, _&&_}
-use mathlib.Core.List.{List, [], _∷_, _++_, map, append-assoc, append-nil}
+use mathlib.Core.List.{List, [], _∷_, map, append-nil}
 use mathlib.Core.Path.{_≡_, sym, ap, _∙_}
 use Prim.Native.Nat.{ℕ, zero, suc, _+_, _^_, _<_, _≤_}
 use native.Mathlib.Omega.{arith}
@@ -23,7 +23,6 @@ use Rattle.numbers.proofs.refusals.Judging.{sizes-most}
 use Rattle.text.specs.Print.{judged, refusedLine}
 use Rattle.listings.proofs.Parts.{others-le}
 use Rattle.listings.proofs.Joined.{Plain, parts-fields, parts-lines}
-use Rattle.listings.proofs.Characters.{length-decimal, digitCount-in}
 use Rattle.listings.proofs.Lengths.{digitsOf-le, length-numbers}
 use Rattle.listings.proofs.Meaning.{plain-numbers, numbers-said}
 
@@ -118,16 +117,7 @@ refusal-said input number l e =
     let few : length (judged input) ≤ 8192 = omega (arith, length-take 8192 input) in
     refused-line-says number l (omega (arith, bounds .0 .1)) (omega (arith, bounds .1 .1))
 
--- ---- how it is written, and how long it is
-
-pub decimal-le : (x : ℕ) → length (decimal x) ≤ 4
-decimal-le x = omega (arith, length-decimal x, digitCount-in x)
-
-pub refused-line-fields : (number l : ℕ)
-    → refusedLine number l ≡ bytes "refused" ++ (9 ∷ []) ++ decimal number ++ (9 ∷ []) ++ decimal l ++ (10 ∷ [])
-unfolding refusedLine line tabbed bytes
-refused-line-fields number l =
-    simp (append-assoc, append-nil) (ap (λ (v : List ℕ). bytes "refused" ++ 9 ∷ v) (append-assoc (decimal number) (9 ∷ decimal l) (10 ∷ [])))
+-- ---- how long it is
 
 pub refused-line-le : (number l : ℕ) → length (refusedLine number l) ≤ 18
 unfolding refusedLine line bytes

@@ -8,8 +8,9 @@ use lib.ListN.{length}
 use Rattle.search.specs.declared.expansion.Expansion.{Expansion}
 use Rattle.text.specs.declared.write.Listed.the-variants.{Length, Short}
 use Rattle.listings.specs.Listing.{listing}
-use Rattle.text.specs.inner.Write.{Put, WriteListing}
-use Rattle.text.proofs.writer.Puts.{put-front}
+use Rattle.writing.specs.Put.{Put}
+use Rattle.text.specs.inner.Write.{WriteListing}
+use Rattle.writing.proofs.Puts.{put-front}
 
 -- ---- the two answers
 

@@ -2,7 +2,7 @@
 use borrow.Author.Needs.{needs}
 use Rattle.listings.specs.Parts.{bytes}
 use Rattle.listings.specs.Listing.{tabbed, line}
-use Rattle.text.proofs.writer.Puts.{put-then}
+use Rattle.writing.proofs.Puts.{put-then}
 use Rattle.text.proofs.write.write_end.Statement.{statement}
 use Rattle.text.proofs.write.write_end.Tie as tie
 

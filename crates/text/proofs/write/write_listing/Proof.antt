@@ -4,20 +4,13 @@ use Prim.Native.Nat.{_+_, _*_, _≤_}
 use lib.ListN.{length}
 use Rattle.listings.specs.Listing.{numbersOf, formLine, listingWith, listing}
 use Rattle.listings.specs.inner.Lengths.{digitsOf}
-use Rattle.text.specs.inner.Write.{Put}
-use Rattle.text.proofs.writer.Puts.{put-then, put-length}
+use Rattle.writing.specs.Put.{Put}
+use Rattle.writing.proofs.Puts.{put-then, put-length}
 use Rattle.listings.proofs.Lengths.{digitsOf-le, length-formLine, length-products, length-stated, products-small}
 use Rattle.text.proofs.write.Listings.{listing-written, listing-short}
 use native.Mathlib.Omega.{arith}
 use Rattle.text.proofs.write.write_listing.Statement.{statement}
 use Rattle.text.proofs.write.write_listing.Tie as tie
-
--- the first line is written
-form : (c : tie.After-write-form)
-    → let a = c .before .before .before .before .before .before .before .before .before .before .args in
-    Put (a .out .now) 0 (formLine (numbersOf (a .n) (a .m) (a .k) (a .e))) (c .write-form .last .1 .0) (c .write-form .result .at)
-unfolding formLine
-form c = c .write-form .ensures
 
 -- the listing has room
 room :
@@ -73,7 +66,7 @@ write-terms-requires c κs =
     let r = p .before .before .before .before .before in
     let s = r .before .before .before .before .before in
     let a = s .args in
-    let f = form p in (
+    let f = p .write-form .ensures in (
       (s .pre .inputs, s .pre .outputs, s .pre .mixed, s .pre .fixed),
       omega (arith, room r, f .to, put-length f, length-formLine (numbersOf (a .n) (a .m) (a .k) (a .e)), length-products (a .n) (a .m) (a .e) (s .pre)),
     )
@@ -85,7 +78,7 @@ write-end-requires c κs =
     let r = p .before .before .before .before .before in
     let s = r .before .before .before .before .before in
     let a = s .args in
-    let f = form p in
+    let f = p .write-form .ensures in
     let terms = t .write-terms .ensures in
     omega (arith, room r, f .to, put-length f, length-formLine (numbersOf (a .n) (a .m) (a .k) (a .e)), terms .to, put-length terms, length-products (a .n) (a .m) (a .e) (s .pre))
 
@@ -102,7 +95,7 @@ returns-2 c =
     let s = r .before .before .before .before .before in
     let a = s .args in
     let fits : length (listing (a .n) (a .m) (a .k) (a .e)) ≤ length (a .out .now) = omega (arith, room r, length-stated (a .n) (a .m) (a .e) (s .pre) (a .k)) in
-    listing-written (a .n) (a .m) (a .k) (a .e) _ _ _ fits (put-then (put-then (form p) (t .write-terms .ensures)) (d .write-end .ensures))
+    listing-written (a .n) (a .m) (a .k) (a .e) _ _ _ fits (put-then (put-then (p .write-form .ensures) (t .write-terms .ensures)) (d .write-end .ensures))
 
 pub write-listing-spec : {M : Type 1} → statement M
 write-listing-spec =

@@ -5,7 +5,7 @@ use Prim.Native.Nat.{_+_, _≤_}
 use lib.ListN.{length}
 use Rattle.listings.specs.Parts.{bytes}
 use Rattle.listings.specs.Listing.{termLine}
-use Rattle.text.proofs.writer.Puts.{put-none, put-then, put-length}
+use Rattle.writing.proofs.Puts.{put-none, put-then, put-length}
 use Rattle.listings.proofs.Characters.{length-cube, length-outputs}
 use Rattle.numbers.proofs.Nonzero.{nonzero-none, nonzero-some}
 use Rattle.listings.proofs.Lengths.{length-termLine, termLine-fields}

@@ -9,8 +9,8 @@ use Rattle.search.specs.Expansion.{termPolarity}
 use Rattle.search.proofs.polarity.Fitting.{termPolarity-fits}
 use Rattle.numbers.specs.Nonzero.{overNonzero}
 use Rattle.listings.specs.Listing.{termLines}
-use Rattle.text.specs.inner.Write.{Put}
-use Rattle.text.proofs.writer.Puts.{put-none, put-then, put-length}
+use Rattle.writing.specs.Put.{Put}
+use Rattle.writing.proofs.Puts.{put-none, put-then, put-length}
 use Rattle.listings.proofs.Lengths.{termLines-le}
 use Rattle.numbers.proofs.Shifts.{one-shifted, points-le}
 use native.Mathlib.Omega.{arith}

@@ -3,9 +3,9 @@ use borrow.Author.Needs.{needs}
 use mathlib.Core.Path.{refl}
 use Prim.Native.Nat.{_-_}
 use lib.ListN.{length}
-use Rattle.text.proofs.writer.Puts.{Written, written-none, written-more, written-all}
-use Rattle.text.proofs.writer.Writer.word.Statement.{statement}
-use Rattle.text.proofs.writer.Writer.word.Tie as tie
+use Rattle.writing.proofs.Puts.{Written, written-none, written-more, written-all}
+use Rattle.writing.proofs.writer.Writer.word.Statement.{statement}
+use Rattle.writing.proofs.writer.Writer.word.Tie as tie
 
 abbrev Inv-loop : tie.InvT-loop
 Inv-loop out₀ word at k₀ out k = Written word at out₀ out k

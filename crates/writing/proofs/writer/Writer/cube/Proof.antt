@@ -3,11 +3,11 @@ use borrow.Author.Needs.{needs}
 use mathlib.Core.Path.{sym, _∙_}
 use Prim.Native.Nat.{_-_, _<_}
 use Rattle.listings.specs.Listing.{cube}
-use Rattle.text.proofs.writer.Puts.{Written, written-none, written-more, written-all}
+use Rattle.writing.proofs.Puts.{Written, written-none, written-more, written-all}
 use Rattle.listings.proofs.Characters.{length-cube, at-cube}
 use native.Mathlib.Omega.{arith}
-use Rattle.text.proofs.writer.Writer.cube.Statement.{statement}
-use Rattle.text.proofs.writer.Writer.cube.Tie as tie
+use Rattle.writing.proofs.writer.Writer.cube.Statement.{statement}
+use Rattle.writing.proofs.writer.Writer.cube.Tie as tie
 
 abbrev Inv-loop : tie.InvT-loop
 Inv-loop out₀ n t w at k₀ out k = Written (cube n t w) at out₀ out k

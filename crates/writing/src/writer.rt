@@ -5,7 +5,7 @@ ghost use Prim.Native.Nat.{_+_, _/_, _%_, _^_, _≤_, _<_};
 ghost use lib.ListN.{length};
 ghost use Rattle.numbers.specs.Bits.{bit};
 ghost use Rattle.listings.specs.Listing.{digitCount, decimal, cubeByte, cube, outputBytes};
-ghost use Rattle.text.specs.inner.Write.{Put};
+ghost use Rattle.writing.specs.Put.{Put};
 
 pub struct Writer {
     pub at: usize,

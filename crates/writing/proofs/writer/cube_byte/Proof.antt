@@ -2,8 +2,8 @@
 use borrow.Author.Needs.{needs}
 use Rattle.listings.specs.Listing.{cubeByte}
 use Rattle.listings.proofs.Characters.{cubeByte-plain, cubeByte-complemented}
-use Rattle.text.proofs.writer.cube_byte.Statement.{statement}
-use Rattle.text.proofs.writer.cube_byte.Tie as tie
+use Rattle.writing.proofs.writer.cube_byte.Statement.{statement}
+use Rattle.writing.proofs.writer.cube_byte.Tie as tie
 
 shr-if1 : tie.Need-shr-if1
 shr-if1 c = search needs

@@ -3,8 +3,8 @@ use borrow.Author.Needs.{needs}
 use native.Mathlib.Nat.{one-le-pow}
 use lib.Dec.{lit<}
 use Rattle.listings.proofs.Characters.{unit-power}
-use Rattle.text.proofs.writer.digit_byte.Statement.{statement}
-use Rattle.text.proofs.writer.digit_byte.Tie as tie
+use Rattle.writing.proofs.writer.digit_byte.Statement.{statement}
+use Rattle.writing.proofs.writer.digit_byte.Tie as tie
 
 mul-result : tie.Need-mul-result
 mul-result c = search needs

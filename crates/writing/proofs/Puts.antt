@@ -8,7 +8,7 @@ use native.Mathlib.Numerals.{add-one}
 use native.Mathlib.Omega.{arith}
 use lib.ListN.{length, getD, take, drop, set, length-append, length-set}
 use lib.Seq.{sets, sets-eq, length-sets, take-suc, take-all, length-take-le}
-use Rattle.text.specs.inner.Write.{Put}
+use Rattle.writing.specs.Put.{Put}
 
 -- ---- one write after another
 

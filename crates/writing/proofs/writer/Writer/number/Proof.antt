@@ -3,11 +3,11 @@ use borrow.Author.Needs.{needs}
 use mathlib.Core.Path.{sym, _∙_}
 use Prim.Native.Nat.{_-_, _<_}
 use Rattle.listings.specs.Listing.{decimal, digitCount}
-use Rattle.text.proofs.writer.Puts.{Written, written-none, written-more, written-all}
+use Rattle.writing.proofs.Puts.{Written, written-none, written-more, written-all}
 use Rattle.listings.proofs.Characters.{length-decimal, at-decimal, digitCount-in}
 use native.Mathlib.Omega.{arith}
-use Rattle.text.proofs.writer.Writer.number.Statement.{statement}
-use Rattle.text.proofs.writer.Writer.number.Tie as tie
+use Rattle.writing.proofs.writer.Writer.number.Statement.{statement}
+use Rattle.writing.proofs.writer.Writer.number.Tie as tie
 
 abbrev Inv-loop : tie.InvT-loop
 Inv-loop out₀ x at count k₀ out k = Written (decimal x) at out₀ out k

@@ -6,12 +6,12 @@ use Prim.Native.Nat.{_-_, _≤_}
 use lib.ListN.{length, take}
 use lib.Seq.{take-all}
 use Rattle.listings.specs.Listing.{tabbed, decimal}
-use Rattle.text.specs.inner.Write.{Put}
-use Rattle.text.proofs.writer.Puts.{put-none, put-then, put-length}
+use Rattle.writing.specs.Put.{Put}
+use Rattle.writing.proofs.Puts.{put-none, put-then, put-length}
 use Rattle.listings.proofs.Lengths.{numbers-next, numbers-room}
 use native.Mathlib.Omega.{arith}
-use Rattle.text.proofs.write.write_numbers.Statement.{statement}
-use Rattle.text.proofs.write.write_numbers.Tie as tie
+use Rattle.writing.proofs.line.write_numbers.Statement.{statement}
+use Rattle.writing.proofs.line.write_numbers.Tie as tie
 
 abbrev Inv-loop : tie.InvT-loop
 Inv-loop out₀ numbers place₀ j₀ out place j = (j ≤ length numbers) × Put out₀ (place₀ .at) (tabbed (map decimal (take j numbers))) out (place .at)

@@ -3,11 +3,11 @@ use borrow.Author.Needs.{needs}
 use mathlib.Core.Path.{sym}
 use Prim.Native.Nat.{_-_, _<_}
 use Rattle.listings.specs.Listing.{outputBytes}
-use Rattle.text.proofs.writer.Puts.{Written, written-none, written-more, written-all}
+use Rattle.writing.proofs.Puts.{Written, written-none, written-more, written-all}
 use Rattle.listings.proofs.Characters.{length-outputs, at-outputs}
 use native.Mathlib.Omega.{arith}
-use Rattle.text.proofs.writer.Writer.outputs.Statement.{statement}
-use Rattle.text.proofs.writer.Writer.outputs.Tie as tie
+use Rattle.writing.proofs.writer.Writer.outputs.Statement.{statement}
+use Rattle.writing.proofs.writer.Writer.outputs.Tie as tie
 
 abbrev Inv-loop : tie.InvT-loop
 Inv-loop out₀ m c at k₀ out k = Written (outputBytes m c) at out₀ out k

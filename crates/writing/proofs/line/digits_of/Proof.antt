@@ -8,8 +8,8 @@ use Rattle.listings.specs.inner.Lengths.{digitsOf}
 use Rattle.listings.proofs.Lengths.{digitsOf-next}
 use Rattle.listings.proofs.Characters.{digitCount-in}
 use native.Mathlib.Omega.{arith}
-use Rattle.text.proofs.write.digits_of.Statement.{statement}
-use Rattle.text.proofs.write.digits_of.Tie as tie
+use Rattle.writing.proofs.line.digits_of.Statement.{statement}
+use Rattle.writing.proofs.line.digits_of.Tie as tie
 
 abbrev Inv-loop : tie.InvT-loop
 Inv-loop numbers digits₀ j₀ digits j = (j ≤ length numbers) × (digits ≡ digitsOf (take j numbers)) × (digits ≤ j * 4)
