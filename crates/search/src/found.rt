@@ -11,10 +11,10 @@ use crate::charges::cheapest_block;
 use crate::expansion::Expansion;
 use crate::lanes::expand_blocks;
 use crate::pairs::Leader;
-use crate::points::gather;
-use crate::points::outside;
 use crate::sizes::Pair;
 use crate::sizes::Sizes;
+use points::split::gather;
+use points::split::outside;
 
 // The first least polarity of block j, and 0 where there is no block j.
 fn polarity_at(rows: &[u64; 256], sizes: Sizes, lanes: &[u8], j: usize) -> u8

@@ -9,12 +9,12 @@ ghost use Rattle.expansions.specs.Split as Split;
 ghost use Rattle.search.specs.inner.Lanes.{laneByte, placesByte, lanesUnder, blockLanes};
 ghost use Rattle.search.specs.inner.Search.{Limits, MixedSet};
 use crate::expansion::Expansion;
-use crate::points::gather;
-use crate::points::outside;
-use crate::points::spread;
-use crate::points::wide;
 use crate::sizes::Pair;
 use crate::sizes::Sizes;
+use points::split::gather;
+use points::split::outside;
+use points::split::spread;
+use points::split::wide;
 
 // Fills `points` with the numbers 0, 1, .. opened out at the inputs of the mask.
 fn open_out(n: usize, mask: usize, points: &mut [u8])

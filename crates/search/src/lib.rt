@@ -8,6 +8,5 @@ pub mod expansion;
 mod found;
 mod lanes;
 mod pairs;
-mod points;
 pub mod polarity;
 mod sizes;

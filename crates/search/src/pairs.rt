@@ -11,11 +11,11 @@ ghost use Rattle.search.specs.inner.Search.{Limits, Given, MixedSet, cha
 use crate::charges::cheapest_block;
 use crate::lanes::expand_blocks;
 use crate::lanes::next_polarity;
-use crate::points::ones_in;
-use crate::points::outside;
-use crate::points::spread;
 use crate::sizes::Pair;
 use crate::sizes::Sizes;
+use points::split::ones_in;
+use points::split::outside;
+use points::split::spread;
 
 // The pair that leads, M * 2^n + i, and its charge; before there is one, the charge is above every charge.
 pub struct Leader {

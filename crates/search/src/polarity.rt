@@ -2,10 +2,10 @@
 ghost use mathlib.Core.Path.{_≡_};
 ghost use Rattle.search.specs.Expansion.{termPolarity};
 use crate::expansion::Expansion;
-use crate::points::gather;
-use crate::points::outside;
-use crate::points::spread;
-use crate::points::wide;
+use points::split::gather;
+use points::split::outside;
+use points::split::spread;
+use points::split::wide;
 
 // The polarity of the term t: the fixed polarity outside the mixed set, and in it the polarity of the term's block. Where n is above 8 or
 // a mask is none of n inputs it gives 0.

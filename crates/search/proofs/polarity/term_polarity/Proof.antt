@@ -7,8 +7,8 @@ use Rattle.numbers.specs.Bytes.{at}
 use Rattle.numbers.proofs.Shifts.{one-shifted}
 use Rattle.expansions.specs.Split.{gather, spread, outside}
 use Rattle.expansions.specs.Members.{polarity}
+use Rattle.points.proofs.Bounds.{gather-small, spread-small}
 use Rattle.search.specs.Expansion.{termPolarity}
-use Rattle.search.proofs.points.Walks.{gather-small, spread-small}
 use lib.Pow.{pow-mono}
 use native.Mathlib.Omega.{arith}
 use Rattle.search.proofs.polarity.term_polarity.Statement.{statement}

@@ -6,12 +6,12 @@ use native.Mathlib.Nat.{mul-assoc, le-of-suc-le-suc, mul-le-mul}
 use native.Mathlib.Omega.{arith}
 use native.Mathlib.Numerals.{add-one}
 use lib.Count.{onesIn}
-use lib.Pow.{pow-mono, shl-exact}
+use lib.Pow.{shl-exact}
 use Rattle.numbers.specs.Bits.{bit}
 use Rattle.expansions.specs.Split.{gather, spread}
 use Rattle.expansions.proofs.Masks.{ones-next, gather-next, spread-next}
 use Rattle.numbers.proofs.Bits.{bit-lt}
-use Rattle.expansions.proofs.Split.{ones-size, gather-lt, spread-lt}
+use Rattle.expansions.proofs.Split.{ones-size}
 
 -- ---- the inputs passed
 
@@ -57,16 +57,3 @@ pub spread-digit : (n M used b x y : ℕ) → Passed n M used b → x ≡ spread
     → x + bit b M * bit used y * 2 ^ b % 2 ^ 64 ≡ spread (b + 1) M y
 spread-digit n M used b x y p e =
     rw (add-one b, spread-next b M y, ← (p .count)) (ap₂ _+_ e (bits-shifted b M used y b (omega arith)))
-
--- ---- what is gathered or spread of eight inputs is a byte
-
-pub gather-small : (n M x : ℕ) → n ≤ 8 → gather n M x < 2 ^ 8
-gather-small n M x h =
-    let few : onesIn n M ≤ 8 = omega (arith, ones-size n (onesIn n M) M refl) in
-    let size : 2 ^ onesIn n M ≤ 2 ^ 8 = pow-mono few in
-    omega (arith, gather-lt n M x)
-
-pub spread-small : (n M y : ℕ) → n ≤ 8 → spread n M y < 2 ^ 8
-spread-small n M y h =
-    let size : 2 ^ n ≤ 2 ^ 8 = pow-mono h in
-    omega (arith, spread-lt n M y)

@@ -3,10 +3,11 @@ use borrow.Author.Needs.{needs}
 use mathlib.Core.Path.{_≡_, refl, _∙_, ap}
 use Prim.Native.Nat.{ℕ, _+_, _-_}
 use Rattle.expansions.specs.Split.{spread}
-use Rattle.search.proofs.points.Walks.{Passed, passed-none, passed-more, passed-few, passed-all, bits-lt, spread-digit, spread-small}
+use Rattle.points.proofs.Bounds.{spread-small}
+use Rattle.points.proofs.split.Walks.{Passed, passed-none, passed-more, passed-few, passed-all, bits-lt, spread-digit}
 use native.Mathlib.Omega.{arith}
-use Rattle.search.proofs.points.spread.Statement.{statement}
-use Rattle.search.proofs.points.spread.Tie as tie
+use Rattle.points.proofs.split.spread.Statement.{statement}
+use Rattle.points.proofs.split.spread.Tie as tie
 
 abbrev Inv-loop : tie.InvT-loop
 Inv-loop n mask y x₀ used₀ b₀ x used b = Passed n mask used b × (x ≡ spread b mask y)

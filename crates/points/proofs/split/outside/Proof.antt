@@ -6,8 +6,8 @@ use lib.Pow.{pow-pos}
 use Rattle.numbers.proofs.Shifts.{one-shifted}
 use Rattle.expansions.proofs.Masks.{outside-difference}
 use native.Mathlib.Omega.{arith}
-use Rattle.search.proofs.points.outside.Statement.{statement}
-use Rattle.search.proofs.points.outside.Tie as tie
+use Rattle.points.proofs.split.outside.Statement.{statement}
+use Rattle.points.proofs.split.outside.Tie as tie
 
 all : (c : tie.Start) → 1 * 2 ^ c .args .n % 2 ^ 64 ≡ 2 ^ c .args .n
 all c = one-shifted _ (omega (arith, c .pre .0))

@@ -3,10 +3,10 @@ use borrow.Author.Needs.{needs}
 use mathlib.Core.Path.{_∙_, ap}
 use Prim.Native.Nat.{ℕ, _-_}
 use lib.Count.{onesIn}
-use Rattle.search.proofs.points.Walks.{Passed, passed-none, passed-more, passed-few, passed-all}
+use Rattle.points.proofs.split.Walks.{Passed, passed-none, passed-more, passed-few, passed-all}
 use native.Mathlib.Omega.{arith}
-use Rattle.search.proofs.points.ones_in.Statement.{statement}
-use Rattle.search.proofs.points.ones_in.Tie as tie
+use Rattle.points.proofs.split.ones_in.Statement.{statement}
+use Rattle.points.proofs.split.ones_in.Tie as tie
 
 abbrev Inv-loop : tie.InvT-loop
 Inv-loop n mask used₀ b₀ used b = Passed n mask used b

@@ -3,10 +3,11 @@ use borrow.Author.Needs.{needs}
 use mathlib.Core.Path.{_≡_, refl, _∙_, ap}
 use Prim.Native.Nat.{ℕ, _+_, _-_}
 use Rattle.expansions.specs.Split.{gather}
-use Rattle.search.proofs.points.Walks.{Passed, passed-none, passed-more, passed-few, passed-all, bits-lt, gather-digit, gather-small}
+use Rattle.points.proofs.Bounds.{gather-small}
+use Rattle.points.proofs.split.Walks.{Passed, passed-none, passed-more, passed-few, passed-all, bits-lt, gather-digit}
 use native.Mathlib.Omega.{arith}
-use Rattle.search.proofs.points.gather.Statement.{statement}
-use Rattle.search.proofs.points.gather.Tie as tie
+use Rattle.points.proofs.split.gather.Statement.{statement}
+use Rattle.points.proofs.split.gather.Tie as tie
 
 abbrev Inv-loop : tie.InvT-loop
 Inv-loop n mask x y₀ used₀ b₀ y used b = Passed n mask used b × (y ≡ gather b mask x)
