@@ -13,6 +13,21 @@ use Rattle.numbers.proofs.Bits.{bit-lt}
 
 -- ---- counted
 
+pub counted-none : (c x : ℕ) → c ≡ 0 → counted c x ≡ 0
+unfolding counted
+counted-none c x e = rw e
+
+pub counted-some : (c x : ℕ) → (c ≡ 0 → ⊥) → counted c x ≡ x
+unfolding counted
+counted-some zero x h = absurd (h refl)
+counted-some (suc c) x h = refl
+
+-- a map that keeps 0
+pub counted-map : (h : ℕ → ℕ) → h 0 ≡ 0 → (c x : ℕ) → h (counted c x) ≡ counted c (h x)
+unfolding counted
+counted-map h z zero x = z
+counted-map h z (suc c) x = refl
+
 pub counted-le : (c a b : ℕ) → a ≤ b → counted c a ≤ b
 unfolding counted
 counted-le zero a b h = omega arith
