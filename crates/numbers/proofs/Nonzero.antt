@@ -22,6 +22,11 @@ unfolding ifNonzero
 nonzero-some zero xs h = absurd (h refl)
 nonzero-some (suc c) xs h = refl
 
+pub nonzero-ext : {A : Type 0} (c : ℕ) (xs ys : List A) → ((c ≡ 0 → ⊥) → xs ≡ ys) → ifNonzero c xs ≡ ifNonzero c ys
+unfolding ifNonzero
+nonzero-ext zero xs ys h = refl
+nonzero-ext (suc c) xs ys h = h (omega arith)
+
 -- ---- the numbers below N
 
 pub overNonzero-more : {A : Type 0} (g : ℕ → List A) (c : ℕ → ℕ) (N : ℕ) (s : List A)
