@@ -15,7 +15,8 @@ use Rattle.numbers.specs.Tests.{every}
 use Rattle.numbers.proofs.Ands.{and-again, inside-and}
 use Rattle.numbers.proofs.Tests.{both-left, both-right, both-true, every-to, every-from}
 use Rattle.algebra.specs.Terms.{value}
-use Rattle.expansions.specs.Members.{polarity, Member}
+use Rattle.expansions.specs.Members.{block, place, polarity, Member}
+use Rattle.expansions.specs.Costs.{counted}
 use Rattle.expansions.specs.Answers.{validPair}
 use Rattle.expansions.proofs.Counted.{counted-none, counted-some}
 use Rattle.expansions.proofs.Masks.{valid-from, valid-size, valid-clear}
@@ -90,23 +91,53 @@ module _ (n k M i : ℕ) (w c : ℕ → ℕ) (passes : ofClass n k M i w c ≡ t
   pub class-value : (p : ℕ) → value n (polarity n M i (shownPolarity n M w)) c p ≡ value n w c p
   class-value = value-shown n (polarity n M i (shownPolarity n M w)) w c same-shown
 
--- ---- the terms are a member's: the test passes
+-- ---- the terms show what a member's lines show: the test passes
 
-module _ (n k M i : ℕ) (φ c : ℕ → ℕ) (member : Member n k M i φ) where
-  -- the polarities that its lines show are a member's, of which each product shows what it shows of its own
-  pub back-member : Member n k M i (shownPolarity n M (shownIn n M i φ c))
-  back-member = legal-member n k M i (shownIn n M i φ c) (legal-from n k M i φ member)
+module _ (n k M i : ℕ) (φ w c : ℕ → ℕ) (member : Member n k M i φ) (shows : (t : ℕ) → t < 2 ^ n → w t ≡ shownIn n M i φ c t) where
+  -- a product shows as much of the polarities that the terms show as of the member's own
+  back-shows : (t : ℕ) → t < 2 ^ n → (c t ≡ 0 → ⊥) → bitAnd t (polarity n M i (shownPolarity n M w) t) ≡ bitAnd t (polarity n M i φ t)
+  back-shows t h u =
+      polarity-shown n k M i (shownPolarity n M w) φ (legal-member n k M i w (legal-from n k M i φ member)) member t h
+      (ap (bitAnd (place n M t)) (shown-ext n M w (shownIn n M i φ c) shows (block n M t)) ∙ shown-product n k M i φ c member t h u)
 
-  pub back-shows : (t : ℕ) → t < 2 ^ n → (c t ≡ 0 → ⊥)
-      → bitAnd t (polarity n M i (shownPolarity n M (shownIn n M i φ c)) t) ≡ bitAnd t (polarity n M i φ t)
-  back-shows t h u = polarity-shown n k M i _ φ back-member member t h (shown-product n k M i φ c member t h u)
-
-  pub member-class : ofClass n k M i (shownIn n M i φ c) c ≡ true
+  shown-class : ofClass n k M i w c ≡ true
   unfolding ofClass shownIn
-  member-class =
+  shown-class =
       both-true (legalPair n k M i) _ (legal-from n k M i φ member)
       (every-from (2 ^ n) _ (λ t h.
-      shows-from n M i (shownPolarity n M (shownIn n M i φ c)) (shownIn n M i φ c) c t (λ u. back-shows t h u ∙ sym (counted-some (c t) _ u))))
+      shows-from n M i (shownPolarity n M w) w c t (λ u. back-shows t h u ∙ sym (counted-some (c t) _ u) ∙ sym (shows t h))))
 
-pub class-ext : (n k M i : ℕ) (w w′ c : ℕ → ℕ) → ((t : ℕ) → t < 2 ^ n → w t ≡ w′ t) → ofClass n k M i w c ≡ ofClass n k M i w′ c
-class-ext n k M i w w′ c e = ?
+pub member-class : (n k M i : ℕ) (φ c : ℕ → ℕ) → Member n k M i φ → ofClass n k M i (shownIn n M i φ c) c ≡ true
+member-class n k M i φ c member = shown-class n k M i φ (shownIn n M i φ c) c member (λ t h. refl)
+
+-- ---- exactly
+
+-- a listing with the cubes that a member prints shows what the member's lines show
+printed-shows : (n M i : ℕ) (φ c′ w c : ℕ → ℕ) → Shown n w c → printedCubes n (polarity n M i φ) c′ ≡ printedCubes n w c
+    → (t : ℕ) → t < 2 ^ n → w t ≡ shownIn n M i φ c t
+unfolding shownIn
+printed-shows n M i φ c′ w c shown e t h = go (ℕ-discrete (c t) 0) where
+  go : Dec (c t ≡ 0) → w t ≡ counted (c t) (bitAnd t (polarity n M i φ t))
+  go (yes z) = shown .none t h z ∙ sym (counted-none (c t) (bitAnd t (polarity n M i φ t)) z)
+  go (no z) =
+      sym (inside-and (w t) t (shown .within t h)) ∙ and-comm (w t) t ∙ printedCubes-same n w c (polarity n M i φ) c′ (sym e) t h .2 z
+      ∙ sym (counted-some (c t) (bitAnd t (polarity n M i φ t)) z)
+
+pub class-exactly : (n k M i : ℕ) (w c : ℕ → ℕ) → Shown n w c → (ofClass n k M i w c ≡ true) ↔ Printable n k M i w c
+class-exactly n k M i w c shown = (
+  (λ passes. (shownPolarity n M w, c, class-member n k M i w c passes, class-cubes n k M i w c passes)),
+  (λ printed. shown-class n k M i (printed .0) w c (printed .2) (printed-shows n M i (printed .0) (printed .1) w c shown (printed .3))),
+)
+
+-- "'Not of the class' is said exactly when no member with the listing's M and i prints those cubes."
+pub not-of-class : (n k M i : ℕ) (w c : ℕ → ℕ) → Shown n w c
+    → (ofClass n k M i w c ≡ false) ↔ ((φ c′ : ℕ → ℕ) → Member n k M i φ → printedCubes n (polarity n M i φ) c′ ≡ printedCubes n w c → ⊥)
+not-of-class n k M i w c shown = (
+  (λ fails φ c′ member e. true≢false (sym (class-exactly n k M i w c shown .1 (φ, c′, member, e)) ∙ fails)),
+  (λ none. go none (ofClass n k M i w c) refl),
+)
+  where
+    go : ((φ c′ : ℕ → ℕ) → Member n k M i φ → printedCubes n (polarity n M i φ) c′ ≡ printedCubes n w c → ⊥) → (b : Bool)
+        → ofClass n k M i w c ≡ b → ofClass n k M i w c ≡ false
+    go none false e = e
+    go none true e = absurd (none (shownPolarity n M w) c (class-member n k M i w c e) (class-cubes n k M i w c e))

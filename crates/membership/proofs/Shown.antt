@@ -16,6 +16,7 @@ use Rattle.numbers.proofs.Ands.{and-or, and-assoc, inside-and, and-inside, insi
 use Rattle.numbers.proofs.Bits.{inside-zero}
 use Rattle.numbers.proofs.Sums.{fold-ext, fold-map, fold-closed}
 use Rattle.numbers.proofs.Tests.{only-closed}
+use Rattle.expansions.specs.Split.{outside}
 use Rattle.expansions.specs.Members.{block, place, polarity, Member}
 use Rattle.expansions.specs.Costs.{counted}
 use Rattle.expansions.proofs.Counted.{counted-none, counted-some, counted-map}
@@ -37,7 +38,7 @@ unfolding shownPolarity only
 shown-past n k M w j size h = fold-closed bitOr (λ x. x ≡ 0) refl (λ a b p q. rw (p, q)) (2 ^ n) _ other where
   other : (t : ℕ) → t < 2 ^ n → only (eqb (block n M t) j) (place n M (w t)) ≡ 0
   other t l =
-      let small : block n M t < 2 ^ (n - k) = rw (ones-others n k M size) at (gather-lt n _ t) in
+      let small : block n M t < 2 ^ (n - k) = rw (ones-others n k M size) at (gather-lt n (outside n M) t) in
       rw (ne-eqb (block n M t) j (omega arith))
 
 -- only what the terms show counts
