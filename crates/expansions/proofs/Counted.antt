@@ -13,6 +13,21 @@ use Rattle.numbers.proofs.Bits.{bit-lt}
 
 -- ---- counted
 
+pub counted-none : (c x : ℕ) → c ≡ 0 → counted c x ≡ 0
+unfolding counted
+counted-none c x e = rw e
+
+pub counted-some : (c x : ℕ) → (c ≡ 0 → ⊥) → counted c x ≡ x
+unfolding counted
+counted-some zero x h = absurd (h refl)
+counted-some (suc c) x h = refl
+
+-- a map that keeps 0
+pub counted-map : (h : ℕ → ℕ) → h 0 ≡ 0 → (c x : ℕ) → h (counted c x) ≡ counted c (h x)
+unfolding counted
+counted-map h z zero x = z
+counted-map h z (suc c) x = refl
+
 pub counted-le : (c a b : ℕ) → a ≤ b → counted c a ≤ b
 unfolding counted
 counted-le zero a b h = omega arith
@@ -23,14 +38,9 @@ unfolding counted
 counted-mul zero x = sym (zero-mul x)
 counted-mul (suc c) x = sym (one-mul x)
 
-counted-pos : (c : ℕ) → 0 < c → counted c 1 ≡ 1
-unfolding counted
-counted-pos zero h = absurd (omega arith)
-counted-pos (suc c) h = refl
-
 counted-digit : (m a b : ℕ) → a < 2 → max (counted b 1) a ≡ counted (a * 2 ^ m + b) 1
 counted-digit m zero b h = let e : 0 * 2 ^ m + b ≡ b = omega arith in rw e (omega arith)
-counted-digit m (suc zero) b h = omega (arith, counted-le b 1 1 (omega arith), counted-pos (1 * 2 ^ m + b) (omega (arith, pow-pos m)))
+counted-digit m (suc zero) b h = omega (arith, counted-le b 1 1 (omega arith), counted-some (1 * 2 ^ m + b) 1 (omega (arith, pow-pos m)))
 counted-digit m (suc (suc a)) b h = absurd (omega arith)
 
 -- a number has a bit that is 1 exactly where it is not 0

@@ -3,6 +3,7 @@ pub mod Ascending
 pub mod Masks
 pub mod Least
 pub mod Blocks
+pub mod Polarities
 pub mod Lowest
 pub mod Counted
 pub mod Costs

@@ -39,7 +39,7 @@ allows-from zero w x ht hx f = tt
 allows-from (suc t) zero x ht hx f = rw (f (omega arith)) tt
 allows-from (suc t) (suc w) x ht hx f = let z : 1 - x ≡ 1 = f (omega arith) in let y : x ≡ 0 = omega arith in rw y tt
 
-character-literal : (t w : ℕ) → t < 2 → cond (eqb (cubeByte t w) 45) 0 1 ≡ t
+pub character-literal : (t w : ℕ) → t < 2 → cond (eqb (cubeByte t w) 45) 0 1 ≡ t
 unfolding cubeByte
 character-literal zero w h = refl
 character-literal (suc zero) zero h = refl

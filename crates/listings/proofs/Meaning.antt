@@ -1,10 +1,11 @@
 -- What the listing of an expansion means, read from its bytes alone: at every point the value of the expansion (`listing-value`), as many
--- products and literals as it has (`listing-products`, `listing-literals`), and the numbers of its record on the first line
+-- products and literals as it has (`listing-products`, `listing-literals`), their cubes (`listing-cubes`), and the numbers of its record on the first line
 -- (`listing-numbers`).
-use mathlib.Core.Bool.{Bool}
-use mathlib.Core.List.{List, [], _∷_, _++_, map, append-assoc}
+use mathlib.Core.Bool.{Bool, cond}
+use mathlib.Core.List.{List, [], _∷_, _++_, map, append-assoc, append-nil}
 use mathlib.Core.Path.{_≡_, refl, sym, ap, _∙_}
 use Prim.Native.Nat.{ℕ, zero, suc, _+_, _/_, _%_, _^_, _≤_, _<_}
+use native.Mathlib.Decide.{ℕ-discrete}
 use native.Mathlib.Nat.{add-assoc, add-zero, zero-add}
 use native.Mathlib.Omega.{arith}
 use lib.Bits.{bitXor, xor-comm, xor-zero-r}
@@ -17,18 +18,20 @@ use Rattle.numbers.specs.Sums.{foldBelow}
 use Rattle.numbers.specs.Bits.{bit}
 use Rattle.numbers.specs.Tests.{only}
 use Rattle.algebra.specs.Terms.{holds, value}
+use Rattle.numbers.proofs.Nonzero.{nonzero-none, nonzero-some}
 use Rattle.numbers.proofs.Sums.{fold-ext}
 use Rattle.numbers.proofs.Tests.{only-zero}
 use Rattle.numbers.proofs.Xor.{xor-assoc}
 use Rattle.expansions.specs.Costs.{counted, products, literals}
 use Rattle.expansions.specs.Members.{polarity}
 use Rattle.search.specs.declared.expansion.Expansion.{Expansion}
+use Rattle.expansions.proofs.Counted.{counted-none, counted-some}
 use Rattle.expansions.proofs.Costs.{products-le}
 use Rattle.listings.specs.Parts.{parts, bytes, same, fields}
-use Rattle.listings.specs.Listing.{tabbed, line, digitCount, decimal, cubeByte, cube, outputBytes, numbersOf, formLine, termLine, termLines, listingWith, listing}
+use Rattle.listings.specs.Listing.{tabbed, line, digitCount, decimal, cubeByte, cube, outputBytes, numbersOf, formLine, termLine, termLines, printedCubes, listingWith, listing}
 use Rattle.listings.specs.inner.Listable.{Listable}
 use Rattle.listings.specs.Meaning.{cubeTrue, literalsIn, outputsSaid, finished, linesOf, ofTerm, overLines, overTerms}
-use Rattle.listings.specs.Meaning.{listingValue, listingProducts, listingLiterals, numberSaid, firstNumbers, statedProducts, statedLiterals}
+use Rattle.listings.specs.Meaning.{listingValue, listingProducts, listingLiterals, listingCubes, numberSaid, firstNumbers, statedProducts, statedLiterals}
 use Rattle.listings.proofs.Joined.{Plain, AllPlain, plain-descending, plain-tabulate, parts-fields, parts-lines}
 use Rattle.listings.proofs.Cubes.{cube-holds, cube-literals, outputs-said, decimal-said}
 
@@ -70,43 +73,76 @@ plain-end = (lit< tt, (lit< tt, (lit< tt, tt)))
 
 -- ---- what is joined over the `term` lines
 
-module _ (op : ℕ → ℕ → ℕ) (assoc : (a b c : ℕ) → op (op a b) c ≡ op a (op b c)) (left : (a : ℕ) → op 0 a ≡ a) (right : (a : ℕ) → op a 0 ≡ a)
-    (g : List ℕ → List ℕ → ℕ) where
+module _ {A : Type 0} (op : A → A → A) (none : A) (assoc : (a b c : A) → op (op a b) c ≡ op a (op b c))
+    (left : (a : A) → op none a ≡ a) (right : (a : A) → op a none ≡ a) (g : List ℕ → List ℕ → A) where
   over-line : (word : List ℕ) (fs : List (List ℕ)) (s : List ℕ) → Plain word → AllPlain fs
-      → overTerms op g (line word fs ++ s) ≡ op (only (same word (bytes "term")) (g (getD fs 0 []) (getD fs 1 []))) (overTerms op g s)
+      → overTerms op none g (line word fs ++ s) ≡ op (cond (same word (bytes "term")) (g (getD fs 0 []) (getD fs 1 [])) none) (overTerms op none g s)
   unfolding overTerms overLines ofTerm fields linesOf finished
   over-line word fs s p ps = rw (parts-lines word fs s p ps, parts-fields word fs p ps)
 
-  over-product : (n m t w c : ℕ) (s : List ℕ)
-      → overTerms op g (ifNonzero c (termLine n m t w c) ++ s) ≡ op (counted c (g (cube n t w) (outputBytes m c))) (overTerms op g s)
-  unfolding ifNonzero counted termLine bytes same only
-  over-product n m t w zero s = sym (left (overTerms op g s))
-  over-product n m t w (suc c) s =
-      over-line (bytes "term") (cube n t w ∷ outputBytes m (suc c) ∷ []) s plain-term (plain-cube n t w, (plain-outputs m (suc c), tt))
+  over-term : (n m t w c : ℕ) (s : List ℕ) → overTerms op none g (termLine n m t w c ++ s) ≡ op (g (cube n t w) (outputBytes m c)) (overTerms op none g s)
+  unfolding termLine bytes same
+  over-term n m t w c s = over-line (bytes "term") (cube n t w ∷ outputBytes m c ∷ []) s plain-term (plain-cube n t w, (plain-outputs m c, tt))
 
-  over-terms : (n m : ℕ) (w c : ℕ → ℕ) (N : ℕ) (s : List ℕ)
-      → overTerms op g (termLines n m w c N ++ s) ≡ op (foldBelow op N (λ t. counted (c t) (g (cube n t (w t)) (outputBytes m (c t))))) (overTerms op g s)
-  unfolding overNonzero foldBelow
-  over-terms n m w c zero s = sym (left (overTerms op g s))
-  over-terms n m w c (suc t) s =
-      rw (append-assoc (termLines n m w c t) (ifNonzero (c t) (termLine n m t (w t) (c t))) s)
-      (over-terms n m w c t (ifNonzero (c t) (termLine n m t (w t) (c t)) ++ s)
-      ∙ rw (over-product n m t (w t) (c t) s) (sym (assoc _ _ _)))
+  over-end : overTerms op none g (line (bytes "end") []) ≡ none
+  unfolding line tabbed bytes same overTerms overLines linesOf finished parts
+  over-end = over-line (bytes "end") [] [] plain-end tt ∙ left none
 
-  over-end : overTerms op g (line (bytes "end") []) ≡ 0
-  unfolding line tabbed bytes same only overTerms overLines linesOf finished parts
-  over-end = over-line (bytes "end") [] [] plain-end tt ∙ left 0
+  -- what starts at `none`, and at each product takes up what is said of its line, is what is said of all lines
+  module _ (n m : ℕ) (w c : ℕ → ℕ) (whole : ℕ → A) (start : whole 0 ≡ none) (keep : (t : ℕ) → c t ≡ 0 → whole (suc t) ≡ whole t)
+      (more : (t : ℕ) → (c t ≡ 0 → ⊥) → whole (suc t) ≡ op (whole t) (g (cube n t (w t)) (outputBytes m (c t)))) where
+    over-terms : (N : ℕ) (s : List ℕ) → overTerms op none g (termLines n m w c N ++ s) ≡ op (whole N) (overTerms op none g s)
+    unfolding overNonzero
+    over-terms zero s = sym (ap (λ (a : A). op a (overTerms op none g s)) start ∙ left (overTerms op none g s))
+    over-terms (suc t) s = go (ℕ-discrete (c t) 0) (over-terms t s) (over-terms t (termLine n m t (w t) (c t) ++ s)) where
+      l : List ℕ
+      l = termLine n m t (w t) (c t)
 
-  pub over-listing : (numbers : List ℕ) (n m : ℕ) (w c : ℕ → ℕ)
-      → overTerms op g (listingWith numbers n m w c) ≡ foldBelow op (2 ^ n) (λ t. counted (c t) (g (cube n t (w t)) (outputBytes m (c t))))
-  unfolding listingWith formLine bytes same only
-  over-listing numbers n m w c =
-      let terms : List ℕ = termLines n m w c (2 ^ n) in
-      ap (overTerms op g) (append-assoc (formLine numbers) terms (line (bytes "end") []))
-      ∙ over-line (bytes "form") (map decimal numbers) (terms ++ line (bytes "end") []) plain-form (plain-numbers numbers)
-      ∙ left (overTerms op g (terms ++ line (bytes "end") []))
-      ∙ over-terms n m w c (2 ^ n) (line (bytes "end") [])
-      ∙ rw over-end (right _)
+      go : Dec (c t ≡ 0) → overTerms op none g (termLines n m w c t ++ s) ≡ op (whole t) (overTerms op none g s)
+          → overTerms op none g (termLines n m w c t ++ (l ++ s)) ≡ op (whole t) (overTerms op none g (l ++ s))
+          → overTerms op none g ((termLines n m w c t ++ ifNonzero (c t) l) ++ s) ≡ op (whole (suc t)) (overTerms op none g s)
+      go (yes z) here next =
+          rw (nonzero-none (c t) l z, append-nil (termLines n m w c t)) here ∙ ap (λ (a : A). op a (overTerms op none g s)) (sym (keep t z))
+      go (no z) here next =
+          rw (nonzero-some (c t) l z, append-assoc (termLines n m w c t) l s)
+          (next ∙ ap (op (whole t)) (over-term n m t (w t) (c t) s) ∙ sym (assoc _ _ _) ∙ ap (λ (a : A). op a (overTerms op none g s)) (sym (more t z)))
+
+    pub over-listing : (numbers : List ℕ) → overTerms op none g (listingWith numbers n m w c) ≡ whole (2 ^ n)
+    unfolding listingWith formLine bytes same
+    over-listing numbers =
+        let terms : List ℕ = termLines n m w c (2 ^ n) in
+        ap (overTerms op none g) (append-assoc (formLine numbers) terms (line (bytes "end") []))
+        ∙ over-line (bytes "form") (map decimal numbers) (terms ++ line (bytes "end") []) plain-form (plain-numbers numbers)
+        ∙ left (overTerms op none g (terms ++ line (bytes "end") []))
+        ∙ over-terms (2 ^ n) (line (bytes "end") [])
+        ∙ rw over-end (right _)
+
+-- as numbers: each product counts what is said of its line
+over-counted : (op : ℕ → ℕ → ℕ) → ((a b c : ℕ) → op (op a b) c ≡ op a (op b c)) → ((a : ℕ) → op 0 a ≡ a) → ((a : ℕ) → op a 0 ≡ a)
+    → (g : List ℕ → List ℕ → ℕ) (numbers : List ℕ) (n m : ℕ) (w c : ℕ → ℕ)
+    → overTerms op 0 g (listingWith numbers n m w c) ≡ foldBelow op (2 ^ n) (λ t. counted (c t) (g (cube n t (w t)) (outputBytes m (c t))))
+unfolding foldBelow
+over-counted op assoc left right g numbers n m w c =
+    over-listing op 0 assoc left right g n m w c (λ N. foldBelow op N part) refl
+    (λ t z. ap (op (foldBelow op t part)) (counted-none (c t) (said t) z) ∙ right (foldBelow op t part))
+    (λ t z. ap (op (foldBelow op t part)) (counted-some (c t) (said t) z)) numbers
+  where
+    said : ℕ → ℕ
+    said t = g (cube n t (w t)) (outputBytes m (c t))
+
+    part : ℕ → ℕ
+    part t = counted (c t) (said t)
+
+-- the cubes, one for each product
+pub listing-cubes : (numbers : List ℕ) (n m : ℕ) (w c : ℕ → ℕ) → listingCubes (listingWith numbers n m w c) ≡ printedCubes n w c
+unfolding listingCubes overNonzero
+listing-cubes numbers n m w c =
+    over-listing _++_ [] append-assoc (λ a. refl) append-nil (λ x outputs. x ∷ []) n m w c cubes refl
+    (λ t z. ap (λ (l : List (List ℕ)). cubes t ++ l) (nonzero-none (c t) (cube n t (w t) ∷ []) z) ∙ append-nil (cubes t))
+    (λ t z. ap (λ (l : List (List ℕ)). cubes t ++ l) (nonzero-some (c t) (cube n t (w t) ∷ []) z)) numbers
+  where
+    cubes : ℕ → List (List ℕ)
+    cubes N = overNonzero (λ t. cube n t (w t) ∷ []) c N
 
 -- ---- the value at a point, the products and the literals
 
@@ -119,7 +155,7 @@ module _ (numbers : List ℕ) (n m : ℕ) (w c : ℕ → ℕ) where
   pub listing-value : ((t : ℕ) → t < 2 ^ n → c t < 2 ^ m) → (p : ℕ) → listingValue (listingWith numbers n m w c) p ≡ value n w c p
   unfolding listingValue value
   listing-value small p =
-      over-listing bitXor xor-assoc (λ a. xor-comm 0 a ∙ xor-zero-r a) xor-zero-r (λ cube outputs. only (cubeTrue cube p) (outputsSaid outputs)) numbers n m w c
+      over-counted bitXor xor-assoc (λ a. xor-comm 0 a ∙ xor-zero-r a) xor-zero-r (λ cube outputs. only (cubeTrue cube p) (outputsSaid outputs)) numbers n m w c
       ∙ fold-ext bitXor (2 ^ n) _ _ same-term
     where
       same-term : (t : ℕ) → t < 2 ^ n
@@ -128,12 +164,12 @@ module _ (numbers : List ℕ) (n m : ℕ) (w c : ℕ → ℕ) where
 
   pub listing-products : listingProducts (listingWith numbers n m w c) ≡ products n c
   unfolding listingProducts products
-  listing-products = over-listing _+_ add-assoc zero-add add-zero (λ cube outputs. 1) numbers n m w c
+  listing-products = over-counted _+_ add-assoc zero-add add-zero (λ cube outputs. 1) numbers n m w c
 
   pub listing-literals : listingLiterals (listingWith numbers n m w c) ≡ literals n c
   unfolding listingLiterals literals
   listing-literals =
-      over-listing _+_ add-assoc zero-add add-zero (λ cube outputs. literalsIn cube) numbers n m w c
+      over-counted _+_ add-assoc zero-add add-zero (λ cube outputs. literalsIn cube) numbers n m w c
       ∙ fold-ext _+_ (2 ^ n) _ _ (λ t l. ap (λ (x : ℕ). counted (c t) x) (cube-literals n t _ l))
 
 -- ---- the numbers of the first line

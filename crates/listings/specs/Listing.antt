@@ -76,6 +76,10 @@ termLines n m w c N = overNonzero (λ t. termLine n m t (w t) (c t)) c N
 abbrev pub productLines : ℕ → ℕ → ℕ → ℕ → (ℕ → ℕ) → (ℕ → ℕ) → List ℕ
 productLines n m M i φ c = termLines n m (polarity n M i φ) c (2 ^ n)
 
+-- the cubes of the products, "ascending by t"; w t is the polarity of the term t, and c t its coefficient
+abbrev pub printedCubes : ℕ → (ℕ → ℕ) → (ℕ → ℕ) → List (List ℕ)
+printedCubes n w c = overNonzero (λ t. cube n t (w t) ∷ []) c (2 ^ n)
+
 -- a whole listing with these numbers on its first line, of n inputs and m outputs: each term t has the polarity w t and the coefficient c t
 unfoldable pub listingWith : List ℕ → ℕ → ℕ → (ℕ → ℕ) → (ℕ → ℕ) → List ℕ
 listingWith numbers n m w c = formLine numbers ++ termLines n m w c (2 ^ n) ++ line (bytes "end") []

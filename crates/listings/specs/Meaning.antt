@@ -1,7 +1,7 @@
 -- What a listing means, from its bytes alone. Document 01, "Text in, listing out".
 use mathlib.Core.Path.{_≡_}
 use mathlib.Core.Bool.{Bool, true, cond, _&&_}
-use mathlib.Core.List.{List, [], _∷_, map}
+use mathlib.Core.List.{List, [], _∷_, _++_, map}
 use Prim.Native.Nat.{ℕ, _+_, _-_, _*_, _<_, _^_, _≤_}
 use lib.Bits.{bitXor}
 use lib.Dec.{eqb}
@@ -45,30 +45,34 @@ finished part (next ∷ others) = part ∷ finished next others
 unfoldable pub linesOf : List ℕ → List (List ℕ)
 linesOf s = finished (parts 10 s .first) (parts 10 s .others)
 
--- what is said of the cube and the outputs of a `term` line, and 0 of any other line
-unfoldable pub ofTerm : (List ℕ → List ℕ → ℕ) → List ℕ → ℕ
-ofTerm g l = only (same (field 0 l) (bytes "term")) (g (field 1 l) (field 2 l))
+-- what is said of the cube and the outputs of a `term` line, and `none` of any other line
+unfoldable pub ofTerm : {A : Type 0} → A → (List ℕ → List ℕ → A) → List ℕ → A
+ofTerm none g l = cond (same (field 0 l) (bytes "term")) (g (field 1 l) (field 2 l)) none
 
--- g of each line, joined by op, from 0
-unfoldable pub overLines : (ℕ → ℕ → ℕ) → (List ℕ → ℕ) → List (List ℕ) → ℕ
-overLines op g [] = 0
-overLines op g (l ∷ ls) = op (g l) (overLines op g ls)
+-- g of each line, joined by op, from `none`
+unfoldable pub overLines : {A : Type 0} → (A → A → A) → A → (List ℕ → A) → List (List ℕ) → A
+overLines op none g [] = none
+overLines op none g (l ∷ ls) = op (g l) (overLines op none g ls)
 
--- what is said of each `term` line of a text, joined by op
-unfoldable pub overTerms : (ℕ → ℕ → ℕ) → (List ℕ → List ℕ → ℕ) → List ℕ → ℕ
-overTerms op g s = overLines op (ofTerm g) (linesOf s)
+-- what is said of each `term` line of a text, joined by op, from `none`
+unfoldable pub overTerms : {A : Type 0} → (A → A → A) → A → (List ℕ → List ℕ → A) → List ℕ → A
+overTerms op none g s = overLines op none (ofTerm none g) (linesOf s)
 
 -- "a listing gives at each point the exclusive OR of the outputs on the `term` lines whose cube is true there"
 unfoldable pub listingValue : List ℕ → ℕ → ℕ
-listingValue s p = overTerms bitXor (λ cube outputs. only (cubeTrue cube p) (outputsSaid outputs)) s
+listingValue s p = overTerms bitXor 0 (λ cube outputs. only (cubeTrue cube p) (outputsSaid outputs)) s
 
 -- the number of `term` lines
 unfoldable pub listingProducts : List ℕ → ℕ
-listingProducts s = overTerms _+_ (λ cube outputs. 1) s
+listingProducts s = overTerms _+_ 0 (λ cube outputs. 1) s
 
 -- the literals in the cubes of the `term` lines
 unfoldable pub listingLiterals : List ℕ → ℕ
-listingLiterals s = overTerms _+_ (λ cube outputs. literalsIn cube) s
+listingLiterals s = overTerms _+_ 0 (λ cube outputs. literalsIn cube) s
+
+-- the cubes of the `term` lines: document 02, W-201, "those cubes"
+unfoldable pub listingCubes : List ℕ → List (List ℕ)
+listingCubes s = overTerms _++_ [] (λ cube outputs. cube ∷ []) s
 
 -- ---- the first line
 
@@ -80,6 +84,14 @@ numberSaid v (b ∷ f) = numberSaid (v * 10 + (b - 48)) f
 -- the numbers on the first line after its word: "`form`, n, m, k (a digit), M, i, products, literals"
 unfoldable pub firstNumbers : List ℕ → List ℕ
 firstNumbers s = map (numberSaid 0) (parts 9 (parts 10 s .first) .others)
+
+-- the mixed set M that the first line states
+abbrev pub statedMixed : List ℕ → ℕ
+statedMixed s = getD (firstNumbers s) 3 0
+
+-- the fixed polarity i that the first line states
+abbrev pub statedFixed : List ℕ → ℕ
+statedFixed s = getD (firstNumbers s) 4 0
 
 -- the products that the first line states
 abbrev pub statedProducts : List ℕ → ℕ

@@ -6,6 +6,7 @@ pub mod Tables
 pub mod Shifts
 pub mod Sums
 pub mod Pack
+pub mod Ands
 pub mod Words
 pub mod Nonzero
 pub mod Flips

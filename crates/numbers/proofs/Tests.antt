@@ -1,10 +1,14 @@
--- Tests: two that follow from one another are one (`same-test`), tests joined by `_&&_` and `_||_`, and a number by a test.
+-- Tests: two that follow from one another are one (`same-test`), tests joined by `_&&_` and `_||_`, one test for all numbers below a bound
+-- (`every-to`, `every-from`), and a number by a test.
 use mathlib.Core.Path.{_≡_, refl, subst}
 use mathlib.Core.Bool.{Bool, true, false, _&&_, _||_, true≢false, false≢true}
-use Prim.Native.Nat.{ℕ}
+use Prim.Native.Nat.{ℕ, zero, suc, _<_}
+use native.Mathlib.Decide.{ℕ-discrete}
+use native.Mathlib.Nat.{not-suc-le-zero}
+use native.Mathlib.Omega.{arith}
 use lib.Bits.{bitXor}
 use lib.Dec.{eqb, T, eqb→eq, eqb-refl}
-use Rattle.numbers.specs.Tests.{only}
+use Rattle.numbers.specs.Tests.{only, every}
 
 -- ---- tests
 
@@ -43,6 +47,9 @@ pub both-right : (s t : Bool) → (s && t) ≡ true → t ≡ true
 both-right true t e = e
 both-right false t e = absurd (false≢true e)
 
+pub both-true : (s t : Bool) → s ≡ true → t ≡ true → (s && t) ≡ true
+both-true s t p q = rw (p, q)
+
 pub neither-left : (s t : Bool) → (s || t) ≡ false → s ≡ false
 neither-left true t e = e
 neither-left false t e = refl
@@ -50,6 +57,21 @@ neither-left false t e = refl
 pub neither-right : (s t : Bool) → (s || t) ≡ false → t ≡ false
 neither-right true t e = absurd (true≢false e)
 neither-right false t e = e
+
+-- ---- `every`
+
+pub every-to : (N : ℕ) (test : ℕ → Bool) → every N test ≡ true → (t : ℕ) → t < N → test t ≡ true
+unfolding every
+every-to zero test e t h = absurd (not-suc-le-zero h)
+every-to (suc N) test e t h = go (ℕ-discrete t N) (every-to N test (both-left (every N test) (test N) e) t) where
+  go : Dec (t ≡ N) → (t < N → test t ≡ true) → test t ≡ true
+  go (yes z) ih = rw z (both-right (every N test) (test N) e)
+  go (no z) ih = ih (omega arith)
+
+pub every-from : (N : ℕ) (test : ℕ → Bool) → ((t : ℕ) → t < N → test t ≡ true) → every N test ≡ true
+unfolding every
+every-from zero test h = refl
+every-from (suc N) test h = both-true (every N test) (test N) (every-from N test (λ t l. h t (omega arith))) (h N (omega arith))
 
 -- ---- `only`
 

@@ -1,0 +1,4 @@
+pub mod Cubes
+pub mod Shown
+pub mod Class
+pub mod Answers
