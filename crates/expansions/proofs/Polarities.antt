@@ -33,7 +33,7 @@ parts-equal n M x y hx hy o p = sym (join-gather n M x hx) ∙ ap₂ (join n M) 
 
 module _ (n k M i : ℕ) (φ : ℕ → ℕ) (member : Member n k M i φ) (t : ℕ) where
   -- outside M what it shows of i
-  pub block-shown : block n M (bitAnd t (polarity n M i φ t)) ≡ bitAnd (block n M t) (block n M i)
+  block-shown : block n M (bitAnd t (polarity n M i φ t)) ≡ bitAnd (block n M t) (block n M i)
   block-shown = gather-and n (outside n M) t (polarity n M i φ t) ∙ ap (bitAnd (block n M t)) (polarity-outside n k M i φ member t)
 
   -- in M what its place shows of the polarity of its block

@@ -1,6 +1,6 @@
--- The answer's listing shows the whole answer (`answer-shown`): a polarity's bits that no cube shows do not count for the table, and the least
--- polarity has them 0.
-use mathlib.Core.Path.{_≡_, refl, sym, ap, _∙_}
+-- The answer's listing shows the whole answer (`answer-shown`, `answer-back`): a polarity's bits that no cube shows do not count for the
+-- table, and the least polarity has them 0.
+use mathlib.Core.Path.{_≡_, refl, ap, _∙_}
 use Prim.Native.Nat.{ℕ, _-_, _^_, _≤_, _<_}
 use native.Mathlib.Nat.{le-antisymm}
 use lib.Bits.{bitAnd, and-le-l}
@@ -40,3 +40,7 @@ module _ (n k : ℕ) (f : ℕ → ℕ) (M i : ℕ) (φ c : ℕ → ℕ) (answer 
   unfolding shown
   answer-shown j h =
       le-antisymm (and-le-l (φ j) (shownInputs n M c j)) (rw (shown-back n k M i φ c (answer .member) j) at (shown-le j h))
+
+  -- "Reading a listing that we wrote yields the record it came from": the polarities that its lines show are the answer's
+  pub answer-back : (j : ℕ) → j < 2 ^ (n - k) → shownPolarity n M (shownIn n M i φ c) j ≡ φ j
+  answer-back j h = shown-back n k M i φ c (answer .member) j ∙ answer-shown j h

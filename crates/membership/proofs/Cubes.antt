@@ -62,7 +62,7 @@ module _ (n t w t′ w′ : ℕ) (ht : t < 2 ^ n) (ht′ : t′ < 2 ^ n) (e : cu
         ∙ character-complement (bit i t′) (bit i w′) (bit-lt i t′) (bit-lt i w′) ∙ sym (bit-and i t′ w′)),
   )
 
-pub cube-masked : (n t w : ℕ) → cube n t (bitAnd t w) ≡ cube n t w
+cube-masked : (n t w : ℕ) → cube n t (bitAnd t w) ≡ cube n t w
 unfolding cube descending
 cube-masked zero t w = refl
 cube-masked (suc n) t w =

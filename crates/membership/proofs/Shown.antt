@@ -1,11 +1,11 @@
--- The block polarities that a listing's cubes show: they are of the inputs of M (`shown-lt`, `shown-past`), and a member's are its own as far
--- as its cubes show them (`shown-back`).
+-- The block polarities that a listing's cubes show: they are of the inputs of M (`shown-lt`, `shown-past`), are found term by term (`shown-own`,
+-- `shown-other`), and are a member's own as far as its cubes show them (`shown-back`).
 use mathlib.Core.Bool.{Bool, true, false}
 use mathlib.Core.Path.{_≡_, refl, sym, ap, _∙_, subst}
 use Prim.Native.Nat.{ℕ, zero, suc, _-_, _^_, _≤_, _<_}
 use native.Mathlib.Omega.{arith}
 use borrow.Author.Tests.{eqb-true, eq-eqb, ne-eqb}
-use lib.Bits.{bitAnd, bitOr, or-lt, and-comm, and-zero-r}
+use lib.Bits.{bitAnd, bitOr, or-lt, or-zero-r, and-comm, and-zero-r}
 use lib.Count.{onesIn}
 use lib.Dec.{T, eqb}
 use lib.Pow.{pow-pos}
@@ -46,10 +46,30 @@ pub shown-ext : (n M : ℕ) (w w′ : ℕ → ℕ) → ((t : ℕ) → t < 2 ^ n 
 unfolding shownPolarity
 shown-ext n M w w′ e j = fold-ext bitOr (2 ^ n) _ _ (λ t h. ap (λ (x : ℕ). only (eqb (block n M t) j) (place n M x)) (e t h))
 
+-- ---- term by term
+
+-- what the terms below N show of the polarity of the block j
+abbrev pub shownBelow : ℕ → ℕ → (ℕ → ℕ) → ℕ → ℕ → ℕ
+shownBelow n M w N j = foldBelow bitOr N (λ t. only (eqb (block n M t) j) (place n M (w t)))
+
+pub shown-all : (n M : ℕ) (w : ℕ → ℕ) (j : ℕ) → shownBelow n M w (2 ^ n) j ≡ shownPolarity n M w j
+unfolding shownPolarity
+shown-all n M w j = refl
+
+-- one term more adds to its own block, and to no other
+pub shown-own : (n M : ℕ) (w : ℕ → ℕ) (N : ℕ)
+    → shownBelow n M w (suc N) (block n M N) ≡ bitOr (shownBelow n M w N (block n M N)) (place n M (w N))
+unfolding foldBelow only
+shown-own n M w N = rw (eq-eqb (block n M N) (block n M N) refl)
+
+pub shown-other : (n M : ℕ) (w : ℕ → ℕ) (N j : ℕ) → (block n M N ≡ j → ⊥) → shownBelow n M w (suc N) j ≡ shownBelow n M w N j
+unfolding foldBelow only
+shown-other n M w N j h = rw (ne-eqb (block n M N) j h) (or-zero-r (shownBelow n M w N j))
+
 -- ---- what a block shows of its inputs
 
 -- the inputs of M in a product are among those that its block shows
-pub place-among : (n M : ℕ) (c : ℕ → ℕ) (t : ℕ) → t < 2 ^ n → (c t ≡ 0 → ⊥)
+place-among : (n M : ℕ) (c : ℕ → ℕ) (t : ℕ) → t < 2 ^ n → (c t ≡ 0 → ⊥)
     → bitAnd (place n M t) (shownInputs n M c (block n M t)) ≡ place n M t
 unfolding shownInputs only
 place-among n M c t h u = inside-and (place n M t) whole (subst (λ (x : ℕ). T (inside x whole)) own (inside-ors (2 ^ n) part t h)) where

@@ -1,6 +1,6 @@
 -- Tests: two that follow from one another are one (`same-test`), tests joined by `_&&_` and `_||_`, one test for all numbers below a bound
 -- (`every-to`, `every-from`), and a number by a test.
-use mathlib.Core.Path.{_≡_, refl, subst}
+use mathlib.Core.Path.{_≡_, refl, sym, subst, _∙_}
 use mathlib.Core.Bool.{Bool, true, false, _&&_, _||_, true≢false, false≢true}
 use Prim.Native.Nat.{ℕ, zero, suc, _<_}
 use native.Mathlib.Decide.{ℕ-discrete}
@@ -72,6 +72,13 @@ pub every-from : (N : ℕ) (test : ℕ → Bool) → ((t : ℕ) → t < N → te
 unfolding every
 every-from zero test h = refl
 every-from (suc N) test h = both-true (every N test) (test N) (every-from N test (λ t l. h t (omega arith))) (h N (omega arith))
+
+-- one number that fails is enough
+pub every-fails : (N : ℕ) (test : ℕ → Bool) (t : ℕ) → t < N → test t ≡ false → every N test ≡ false
+every-fails N test t h e = go (every N test) refl where
+  go : (b : Bool) → every N test ≡ b → b ≡ false
+  go true a = sym (every-to N test a t h) ∙ e
+  go false a = refl
 
 -- ---- `only`
 
