@@ -1,25 +1,25 @@
--- A field that says a number or outputs is the field that is written for them: there is one way to write a point (`point-read`) and
--- outputs (`outputs-read`), and for k one digit or `-` (`mixed-read`).
-use mathlib.Core.Bool.{Bool, true, false, cond, not, false≢true}
+-- A field that says a number or outputs is the field that is written for them: there is one way to write a digit (`oneDigit-read`), a number
+-- (`number-read`) and outputs (`outputs-read`).
+use mathlib.Core.Bool.{true, false, not, _&&_, _||_, false≢true}
 use mathlib.Core.List.{List, [], _∷_}
-use mathlib.Core.Logic.{_⊎_, inl, inr}
 use mathlib.Core.Path.{_≡_, refl, sym, ap, ap₂, _∙_}
-use Prim.Native.Nat.{ℕ, suc, _+_, _-_, _*_, _/_, _%_, _≤_, _<_}
+use Prim.Native.Nat.{ℕ, suc, _+_, _*_, _/_, _%_, _^_, _≤_, _<_}
+use native.Mathlib.Nat.{div-one, pow-le-pow-right, lt-of-lt-of-le}
 use native.Mathlib.Omega.{arith}
-use borrow.Author.Tests.{eqb-true, eqb-false, not-true}
-use lib.Dec.{eqb}
-use lib.ListN.{length}
-use Rattle.lines.specs.declared.fields.Number.the-variants.{Is, Wrong}
-use Rattle.lines.specs.declared.fields.Number.{Number}
-use Rattle.listings.specs.Parts.{bytes, same}
-use Rattle.lines.specs.Fields.{andThen, digit, oneDigit, mixed, digitsFrom, wellFormed, point, bits, outputs}
-use Rattle.listings.specs.Listing.{decimal, outputBytes}
+use borrow.Author.Tests.{eqb-true, eqb-false, ne-eqb, not-true}
+use lib.Dec.{leb, eqb, lit<}
+use lib.ListN.{length, getD}
+use Rattle.numbers.proofs.Tests.{both-left, both-right}
+use Rattle.listings.specs.Listing.{descending, digitCount, decimal, outputBytes}
+use Rattle.listings.proofs.Cubes.{outputs-none, outputs-cons, digits-next}
+use Rattle.lines.specs.declared.values.Number.the-variants.{Is, Wrong}
+use Rattle.lines.specs.declared.values.Number.{Number}
+use Rattle.lines.specs.Fields.{andThen, digit, oneDigit, digitsFrom, wellFormed, number, bits, outputs}
 use Rattle.lines.proofs.Numbers.{wrong-is, under-test, digit-lt, digit-byte, wellFormed-le, outputs-is}
-use Rattle.listings.proofs.Words.{same-equal}
-use Rattle.lines.proofs.Written.{decimal-one, decimal-two, decimal-three}
-use Rattle.listings.proofs.Cubes.{outputs-none, outputs-cons}
+use Rattle.lines.proofs.Digits.{ten-least, ten-below, digitCount-of}
+use Rattle.lines.proofs.Written.{decimal-one}
 
--- ---- n, m and k
+-- ---- one digit
 
 pub oneDigit-read : (f : List ℕ) (v : ℕ) → oneDigit f ≡ Is v → f ≡ decimal v
 unfolding oneDigit
@@ -29,71 +29,51 @@ oneDigit-read (b ∷ b′ ∷ f) v e =
     let passes = under-test (eqb (suc (suc (length f))) 1) (digit 10 b) v e in
     absurd (omega (arith, eqb-true (suc (suc (length f))) 1 (passes .0)))
 
-pub mixed-read : (f : List ℕ) (v : ℕ) → mixed f ≡ Is v → (f ≡ decimal v) ⊎ ((v ≡ 1) × (f ≡ bytes "-"))
-unfolding mixed
-mixed-read f v e = go (same f (bytes "-")) refl e where
-  go : (t : Bool) → same f (bytes "-") ≡ t → cond t (Is 1) (oneDigit f) ≡ Is v → (f ≡ decimal v) ⊎ ((v ≡ 1) × (f ≡ bytes "-"))
-  go true h g = inr (cc, same-equal f (bytes "-") h)
-  go false h g = inl (oneDigit-read f v g)
+-- ---- numbers
 
--- ---- points
+-- digits after digits that say u: they are those of the number x that they say, and u is x without them
+digits-from : (f : List ℕ) (u x : ℕ) → digitsFrom u f ≡ Is x → (f ≡ descending (length f) (λ i. 48 + x / 10 ^ i % 10)) × (x / 10 ^ length f ≡ u)
+unfolding digitsFrom descending
+digits-from [] u x e = let same : u ≡ x = cc in (refl, div-one x ∙ sym same)
+digits-from (b ∷ f) u x e = go (digit 10 b) refl (λ d. digits-from f (u * 10 + d) x) e where
+  go : (d : Number) → digit 10 b ≡ d
+      → ((d : ℕ) → digitsFrom (u * 10 + d) f ≡ Is x → (f ≡ descending (length f) (λ i. 48 + x / 10 ^ i % 10)) × (x / 10 ^ length f ≡ u * 10 + d))
+      → andThen d Wrong (λ d. digitsFrom (u * 10 + d) f) ≡ Is x
+      → (b ∷ f ≡ (48 + x / 10 ^ length f % 10) ∷ descending (length f) (λ i. 48 + x / 10 ^ i % 10)) × (x / 10 ^ suc (length f) ≡ u)
+  go (Is d) h ih g =
+      let others = ih d g in
+      let small : d < 10 = digit-lt 10 b d h in
+      (ap₂ _∷_ (omega (arith, digit-byte 10 b d h, others .1)) (others .0), omega (arith, others .1, digits-next (length f) x))
+  go Wrong h ih g = absurd (wrong-is g)
 
--- the first of the digits, and what the others say after it
-record FirstDigit (v b : ℕ) (f : List ℕ) (x : ℕ) : Type 0 where
-  value : ℕ
-  byte : b ≡ 48 + value
-  small : value < 10
-  others : digitsFrom (v * 10 + value) f ≡ Is x
+-- "no leading zero (but `0`)": the first of several digits is not 0
+first-some : (most b : ℕ) (f : List ℕ) (x : ℕ) → wellFormed most (b ∷ f) ≡ true → digitsFrom 0 (b ∷ f) ≡ Is x → (length f ≡ 0 → ⊥) → 10 ^ length f ≤ x
+unfolding wellFormed descending
+first-some most b f x h e many =
+    let said = digits-from (b ∷ f) 0 x e in
+    let first : b ≡ 48 + x / 10 ^ length f % 10 = ap (λ (l : List ℕ). getD l 0 0) (said .0) in
+    let several : eqb (suc (length f)) 1 ≡ false = ne-eqb (suc (length f)) 1 (λ z. omega arith) in
+    let tests = both-right (leb 1 (suc (length f)) && leb (suc (length f)) most) (eqb (suc (length f)) 1 || not (eqb b 48)) h in
+    let other : b ≡ 48 → ⊥ = eqb-false b 48 (not-true (eqb b 48) (rw several at tests)) in
+    let some : 1 ≤ x / 10 ^ length f = omega arith in
+    ten-least (length f) x some
 
-digits-cons : (v b : ℕ) (f : List ℕ) (x : ℕ) → digitsFrom v (b ∷ f) ≡ Is x → FirstDigit v b f x
-unfolding digitsFrom
-digits-cons v b f x e = go (digit 10 b) refl e where
-  go : (d : Number) → digit 10 b ≡ d → andThen d Wrong (λ d. digitsFrom (v * 10 + d) f) ≡ Is x → FirstDigit v b f x
-  go (Is d) h g = record { value = d; byte = digit-byte 10 b d h; small = digit-lt 10 b d h; others = g }
-  go Wrong h g = absurd (wrong-is g)
+digits-read : (most : ℕ) (f : List ℕ) (v : ℕ) → most ≤ 4 → wellFormed most f ≡ true → digitsFrom 0 f ≡ Is v → (f ≡ decimal v) × (v < 10 ^ length f)
+unfolding decimal wellFormed
+digits-read most [] v few h e = absurd (false≢true h)
+digits-read most (b ∷ f) v few h e =
+    let said = digits-from (b ∷ f) 0 v e in
+    let below : v < 10 ^ suc (length f) = ten-below (suc (length f)) v (said .1) in
+    let count : digitCount v ≡ suc (length f) =
+    digitCount-of (length f) v (omega (arith, wellFormed-le most (b ∷ f) h)) below (first-some most b f v h e) in
+    (said .0 ∙ ap (λ (k : ℕ). descending k (λ i. 48 + v / 10 ^ i % 10)) (sym count), below)
 
-digits-nil : (v x : ℕ) → digitsFrom v [] ≡ Is x → v ≡ x
-unfolding digitsFrom
-digits-nil v x e = cc
-
--- "no leading zero (but `0`)"
-leading-digit : (b d : ℕ) → not (eqb b 48) ≡ true → b ≡ 48 + d → 1 ≤ d
-leading-digit b d h e = let other : b ≡ 48 → ⊥ = eqb-false b 48 (not-true (eqb b 48) h) in omega arith
-
-digits-read : (f : List ℕ) (v : ℕ) → wellFormed f ≡ true → digitsFrom 0 f ≡ Is v → f ≡ decimal v
-unfolding wellFormed
-digits-read [] v h e = absurd (false≢true h)
-digits-read (a ∷ []) v h e =
-    let i = digits-cons 0 a [] v e in
-    let sum : i .value ≡ v = omega (arith, digits-nil (0 * 10 + i .value) v (i .others)) in
-    let low : a ≡ 48 + v = omega arith in
-    rw low (sym (decimal-one v (omega arith)))
-digits-read (a ∷ b ∷ []) v h e =
-    let i = digits-cons 0 a (b ∷ []) v e in
-    let j = digits-cons (0 * 10 + i .value) b [] v (i .others) in
-    let some : 1 ≤ i .value = leading-digit a (i .value) h (i .byte) in
-    let sum : i .value * 10 + j .value ≡ v = omega (arith, digits-nil ((0 * 10 + i .value) * 10 + j .value) v (j .others)) in
-    let high : a ≡ 48 + v / 10 = omega arith in
-    let low : b ≡ 48 + v % 10 = omega arith in
-    rw (high, low) (sym (decimal-two v (omega arith) (omega arith)))
-digits-read (a ∷ b ∷ c ∷ []) v h e =
-    let i = digits-cons 0 a (b ∷ c ∷ []) v e in
-    let j = digits-cons (0 * 10 + i .value) b (c ∷ []) v (i .others) in
-    let k = digits-cons ((0 * 10 + i .value) * 10 + j .value) c [] v (j .others) in
-    let some : 1 ≤ i .value = leading-digit a (i .value) h (i .byte) in
-    let sum : (i .value * 10 + j .value) * 10 + k .value ≡ v =
-    omega (arith, digits-nil (((0 * 10 + i .value) * 10 + j .value) * 10 + k .value) v (k .others)) in
-    let high : a ≡ 48 + v / 100 = omega arith in
-    let middle : b ≡ 48 + v / 10 % 10 = omega arith in
-    let low : c ≡ 48 + v % 10 = omega arith in
-    rw (high, middle, low) (sym (decimal-three v (omega arith) (omega arith)))
-digits-read (a ∷ b ∷ c ∷ d ∷ f) v h e = absurd (omega (arith, wellFormed-le (a ∷ b ∷ c ∷ d ∷ f) h))
-
-pub point-read : (f : List ℕ) (v : ℕ) → point f ≡ Is v → f ≡ decimal v
-unfolding point
-point-read f v e =
-    let passes = under-test (wellFormed f) (digitsFrom 0 f) v e in
-    digits-read f v (passes .0) (passes .1)
+pub number-read : (most : ℕ) (f : List ℕ) (v : ℕ) → most ≤ 4 → number most f ≡ Is v → (f ≡ decimal v) × (v < 10 ^ most)
+unfolding number
+number-read most f v few e =
+    let passes = under-test (wellFormed most f) (digitsFrom 0 f) v e in
+    let said = digits-read most f v few (passes .0) (passes .1) in
+    (said .0, lt-of-lt-of-le (said .1) (pow-le-pow-right {n = 10} (lit< tt) (wellFormed-le most f (passes .0))))
 
 -- ---- outputs
 

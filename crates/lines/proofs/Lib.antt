@@ -1,1 +1,5 @@
-pub mod Terms
+pub mod Numbers
+pub mod Digits
+pub mod Written
+pub mod FieldsRead
+pub mod Cubes

@@ -12,8 +12,8 @@ use lib.Dec.{leb, ltb, eqb, lit<}
 use lib.ListN.{length, getD, drop, drop-of-length-le, length-drop}
 use lib.Pow.{pow-mono}
 use lib.Seq.{drop-cons}
-use Rattle.lines.specs.declared.fields.Number.the-variants.{Is, Wrong}
-use Rattle.lines.specs.declared.fields.Number.{Number}
+use Rattle.lines.specs.declared.values.Number.the-variants.{Is, Wrong}
+use Rattle.lines.specs.declared.values.Number.{Number}
 use Rattle.lines.specs.Fields.{andThen, digit, digitsFrom, wellFormed, bits, outputs}
 use Rattle.numbers.proofs.Tests.{both-left, both-right}
 
@@ -58,15 +58,15 @@ module _ (f : List ℕ) (k : ℕ) (v : ℕ) where
   unfolding digitsFrom
   digits-end h = rw (drop-of-length-le f h)
 
-pub wellFormed-le : (f : List ℕ) → wellFormed f ≡ true → length f ≤ 3
+pub wellFormed-le : (most : ℕ) (f : List ℕ) → wellFormed most f ≡ true → length f ≤ most
 unfolding wellFormed
-wellFormed-le f e =
-    leb-true (length f) 3
-    (both-right (leb 1 (length f)) (leb (length f) 3)
-    (both-left (leb 1 (length f) && leb (length f) 3) (eqb (length f) 1 || not (eqb (getD f 0 0) 48)) e))
+wellFormed-le most f e =
+    leb-true (length f) most
+    (both-right (leb 1 (length f)) (leb (length f) most)
+    (both-left (leb 1 (length f) && leb (length f) most) (eqb (length f) 1 || not (eqb (getD f 0 0) 48)) e))
 
 -- k digits say a number below 10 ^ k, and one digit more keeps it so
-pub ten-le : (k : ℕ) → k ≤ 3 → 10 ^ k ≤ 1000
+pub ten-le : (k : ℕ) → k ≤ 4 → 10 ^ k ≤ 10000
 ten-le k h = pow-le-pow-right {n = 10} (lit< tt) h
 
 pub ten-more : (k v d : ℕ) → v < 10 ^ k → d < 10 → v * 10 + d < 10 ^ (k + 1)

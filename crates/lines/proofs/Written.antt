@@ -1,21 +1,22 @@
--- A field as it is written is read back: digits say their number (`oneDigit-decimal`, `mixed-decimal`, `point-decimal`), and characters
--- their outputs (`outputs-written`).
-use mathlib.Core.Bool.{Bool, true, false, not}
+-- A field as it is written is read back: digits say their number (`oneDigit-decimal`, `number-decimal`), and characters their outputs
+-- (`outputs-written`).
+use mathlib.Core.Bool.{Bool, true, false, not, _||_}
 use mathlib.Core.List.{[], _∷_}
 use mathlib.Core.Path.{_≡_, refl, ap, _∙_}
 use Prim.Native.Nat.{ℕ, zero, suc, _+_, _-_, _*_, _/_, _%_, _^_, _≤_, _<_}
 use native.Mathlib.Nat.{div-eq-of-lt, div-one}
 use native.Mathlib.Omega.{arith}
-use borrow.Author.Tests.{lt-ltb, le-ltb, le-leb, eq-eqb, ne-eqb, ltb-true, ltb-false}
-use lib.Dec.{ltb, eqb}
-use Rattle.numbers.specs.Bytes.{tabulate}
-use Rattle.lines.specs.declared.fields.Number.the-variants.{Is}
-use Rattle.listings.specs.Parts.{bytes, same}
-use Rattle.lines.specs.Fields.{digit, oneDigit, mixed, digitsFrom, wellFormed, point, bits, outputs}
+use borrow.Author.Tests.{lt-ltb, le-leb, eq-eqb, ne-eqb, eqb-false}
+use lib.Dec.{eqb}
+use Rattle.numbers.specs.Bytes.{at, tabulate}
 use Rattle.listings.specs.Listing.{descending, digitCount, decimal, outputBytes}
-use Rattle.listings.proofs.Characters.{length-outputs}
+use Rattle.listings.proofs.Characters.{length-outputs, length-decimal, at-decimal, digitCount-in}
 use Rattle.listings.proofs.Cubes.{outputs-cons, digits-next, digitCount-bound}
 use Rattle.listings.proofs.Longest.{digitCount-one}
+use Rattle.lines.specs.declared.values.Number.the-variants.{Is}
+use Rattle.lines.specs.Fields.{digit, oneDigit, digitsFrom, wellFormed, number, bits, outputs}
+use Rattle.lines.proofs.Numbers.{ten-le}
+use Rattle.lines.proofs.Digits.{ten-some, digitCount-least, digitCount-le}
 
 -- ---- one digit
 
@@ -33,38 +34,11 @@ decimal-one x h =
     let low : x / 1 % 10 ≡ x = omega arith in
     rw (digitCount-one x h, low)
 
-pub decimal-two : (x : ℕ) → 10 ≤ x → x < 100 → decimal x ≡ (48 + x / 10) ∷ (48 + x % 10) ∷ []
-unfolding decimal descending digitCount
-decimal-two x l h =
-    let high : x / 10 % 10 ≡ x / 10 = omega arith in
-    let low : x / 1 % 10 ≡ x % 10 = omega arith in
-    rw (le-ltb x 10 l, lt-ltb x 100 h, high, low)
-
-pub decimal-three : (x : ℕ) → 100 ≤ x → x < 1000 → decimal x ≡ (48 + x / 100) ∷ (48 + x / 10 % 10) ∷ (48 + x % 10) ∷ []
-unfolding decimal descending digitCount
-decimal-three x l h =
-    let high : x / 100 % 10 ≡ x / 100 = omega arith in
-    let low : x / 1 % 10 ≡ x % 10 = omega arith in
-    let ten : 10 ≤ x = omega arith in
-    rw (le-ltb x 10 ten, le-ltb x 100 l, lt-ltb x 1000 h, high, low)
-
--- ---- n, m and k
-
 pub oneDigit-decimal : (x : ℕ) → x < 10 → oneDigit (decimal x) ≡ Is x
 unfolding oneDigit
 oneDigit-decimal x h = rw (decimal-one x h) (digit-written 10 x h)
 
-pub mixed-decimal : (x : ℕ) → x < 10 → mixed (decimal x) ≡ Is x
-unfolding mixed same bytes
-mixed-decimal x h =
-    let other : eqb (48 + x) 45 ≡ false = ne-eqb (48 + x) 45 (λ e. omega arith) in
-    ap mixed (decimal-one x h) ∙ rw other (rw (decimal-one x h) at (oneDigit-decimal x h))
-
-pub mixed-dash : mixed (bytes "-") ≡ Is 1
-unfolding mixed same bytes
-mixed-dash = refl
-
--- ---- points
+-- ---- numbers
 
 digits-written : (d x : ℕ) → digitsFrom (x / 10 ^ d) (descending d (λ i. 48 + x / 10 ^ i % 10)) ≡ Is x
 unfolding digitsFrom descending
@@ -72,26 +46,35 @@ digits-written zero x = ap Is (div-one x)
 digits-written (suc d) x =
     rw (digit-written 10 (x / 10 ^ d % 10) (omega arith), digits-next d x) (digits-written d x)
 
-digits-decimal : (x : ℕ) → x < 1000 → digitsFrom 0 (decimal x) ≡ Is x
+digits-decimal : (x : ℕ) → x < 10000 → digitsFrom 0 (decimal x) ≡ Is x
 unfolding decimal
-digits-decimal x h = rw (div-eq-of-lt (digitCount-bound x (omega arith))) at (digits-written (digitCount x) x)
+digits-decimal x h = rw (div-eq-of-lt (digitCount-bound x h)) at (digits-written (digitCount x) x)
 
-leading : (a : ℕ) → 1 ≤ a → not (eqb (48 + a) 48) ≡ true
-leading a h = rw (ne-eqb (48 + a) 48 (λ e. omega arith))
+-- the first digit of a number of several digits is not 0
+leading-some : (x : ℕ) → x < 10000 → (digitCount x ≡ 1 → ⊥) → at (decimal x) 0 ≡ 48 → ⊥
+leading-some x h many e =
+    let least : 10 ^ (digitCount x - 1) ≤ x = digitCount-least x many in
+    let some : 1 ≤ x / 10 ^ (digitCount x - 1) = ten-some (digitCount x - 1) x least in
+    let last : suc (digitCount x - 1) ≡ digitCount x = omega (arith, digitCount-in x) in
+    let none : x / 10 ^ suc (digitCount x - 1) ≡ 0 = rw last (div-eq-of-lt (digitCount-bound x h)) in
+    let whole : digitCount x - 1 - 0 ≡ digitCount x - 1 = omega arith in
+    let first : at (decimal x) 0 ≡ 48 + x / 10 ^ (digitCount x - 1) % 10 = rw whole at (at-decimal x 0 (omega (arith, digitCount-in x))) in
+    omega (arith, digits-next (digitCount x - 1) x)
 
-wellFormed-decimal : (x : ℕ) → x < 1000 → wellFormed (decimal x) ≡ true
+wellFormed-decimal : (most x : ℕ) → x < 10000 → digitCount x ≤ most → wellFormed most (decimal x) ≡ true
 unfolding wellFormed
-wellFormed-decimal x h = go (ltb x 10) (ltb x 100) refl refl where
-  go : (a b : Bool) → ltb x 10 ≡ a → ltb x 100 ≡ b → wellFormed (decimal x) ≡ true
-  go true b p q = ap wellFormed (decimal-one x (ltb-true x 10 p))
-  go false true p q =
-      ap wellFormed (decimal-two x (ltb-false x 10 p) (ltb-true x 100 q)) ∙ leading (x / 10) (omega (arith, ltb-false x 10 p))
-  go false false p q =
-      ap wellFormed (decimal-three x (ltb-false x 100 q) h) ∙ leading (x / 100) (omega (arith, ltb-false x 100 q))
+wellFormed-decimal most x h few =
+    rw (length-decimal x, le-leb 1 (digitCount x) (digitCount-in x .0), le-leb (digitCount x) most few) (go (eqb (digitCount x) 1) refl)
+  where
+    go : (b : Bool) → eqb (digitCount x) 1 ≡ b → (b || not (eqb (at (decimal x) 0) 48)) ≡ true
+    go true e = refl
+    go false e = rw (ne-eqb (at (decimal x) 0) 48 (leading-some x h (eqb-false (digitCount x) 1 e)))
 
-pub point-decimal : (x : ℕ) → x < 1000 → point (decimal x) ≡ Is x
-unfolding point
-point-decimal x h = rw (wellFormed-decimal x h) (digits-decimal x h)
+pub number-decimal : (most x : ℕ) → 1 ≤ most → most ≤ 4 → x < 10 ^ most → number most (decimal x) ≡ Is x
+unfolding number
+number-decimal most x some few h =
+    let small : x < 10000 = omega (arith, ten-le most few) in
+    rw (wellFormed-decimal most x small (digitCount-le most x some h)) (digits-decimal x small)
 
 -- ---- outputs
 

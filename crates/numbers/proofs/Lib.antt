@@ -1,6 +1,7 @@
 pub mod Tests
 pub mod Xor
 pub mod Bits
+pub mod And
 pub mod Bytes
 pub mod Tables
 pub mod Shifts

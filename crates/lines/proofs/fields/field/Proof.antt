@@ -8,8 +8,8 @@ use lib.ListN.{length, getD, drop}
 use Rattle.listings.specs.Parts.{all, parts, fields, field}
 use Rattle.listings.specs.inner.Stops.{stop}
 use Rattle.listings.proofs.Parts.{stop-le, first-slice, others-last, others-next, part-later, part-none}
-use Rattle.lines.proofs.lines.field.Statement.{statement}
-use Rattle.lines.proofs.lines.field.Tie as tie
+use Rattle.lines.proofs.fields.field.Statement.{statement}
+use Rattle.lines.proofs.fields.field.Tie as tie
 
 abbrev Inv-loop : tie.InvT-loop
 Inv-loop line j cursor₀ left₀ cursor left = (cursor .at ≤ length line) × (field j line ≡ getD (all (parts 9 (drop (cursor .at) line))) left [])

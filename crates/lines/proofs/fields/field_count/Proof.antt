@@ -7,8 +7,8 @@ use lib.ListN.{length, drop}
 use Rattle.listings.specs.Parts.{parts, fields}
 use Rattle.listings.specs.inner.Stops.{stop}
 use Rattle.listings.proofs.Parts.{stop-le, others-last, others-next}
-use Rattle.lines.proofs.lines.field_count.Statement.{statement}
-use Rattle.lines.proofs.lines.field_count.Tie as tie
+use Rattle.lines.proofs.fields.field_count.Statement.{statement}
+use Rattle.lines.proofs.fields.field_count.Tie as tie
 
 abbrev Inv-loop : tie.InvT-loop
 Inv-loop line cursor₀ count₀ cursor count =

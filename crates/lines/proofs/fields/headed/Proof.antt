@@ -2,9 +2,9 @@
 use mathlib.Core.Path.{_∙_}
 use borrow.Author.Needs.{needs}
 use borrow.Author.Tests.{eq-eqb, ne-eqb}
-use Rattle.lines.specs.Lines.{headed}
-use Rattle.lines.proofs.lines.headed.Statement.{statement}
-use Rattle.lines.proofs.lines.headed.Tie as tie
+use Rattle.lines.specs.Fields.{headed}
+use Rattle.lines.proofs.fields.headed.Statement.{statement}
+use Rattle.lines.proofs.fields.headed.Tie as tie
 
 field-count-requires : tie.Need-field-count-requires
 field-count-requires c κs = search needs

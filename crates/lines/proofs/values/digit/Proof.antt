@@ -2,8 +2,8 @@
 use borrow.Author.Needs.{needs}
 use borrow.Author.Tests.{lt-ltb, le-ltb, le-leb, lt-leb}
 use Rattle.lines.specs.Fields.{digit}
-use Rattle.lines.proofs.fields.digit.Statement.{statement}
-use Rattle.lines.proofs.fields.digit.Tie as tie
+use Rattle.lines.proofs.values.digit.Statement.{statement}
+use Rattle.lines.proofs.values.digit.Tie as tie
 
 returns : tie.Need-returns
 unfolding digit

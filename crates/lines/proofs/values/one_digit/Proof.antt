@@ -3,8 +3,8 @@ use mathlib.Core.Path.{_∙_}
 use borrow.Author.Needs.{needs}
 use borrow.Author.Tests.{eq-eqb, ne-eqb}
 use Rattle.lines.specs.Fields.{oneDigit}
-use Rattle.lines.proofs.fields.one_digit.Statement.{statement}
-use Rattle.lines.proofs.fields.one_digit.Tie as tie
+use Rattle.lines.proofs.values.one_digit.Statement.{statement}
+use Rattle.lines.proofs.values.one_digit.Tie as tie
 
 returns : tie.Need-returns
 unfolding oneDigit

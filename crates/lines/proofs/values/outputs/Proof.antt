@@ -6,11 +6,11 @@ use borrow.Author.Needs.{needs}
 use borrow.Author.Tests.{eq-eqb, ne-eqb}
 use lib.ListN.{length, drop}
 use lib.Seq.{drop-length}
-use Rattle.lines.specs.declared.fields.Number.the-variants.{Is}
+use Rattle.lines.specs.declared.values.Number.the-variants.{Is}
 use Rattle.lines.specs.Fields.{digit, bits, outputs}
 use Rattle.lines.proofs.Numbers.{digit-lt, bits-step, bits-byte, outputs-wrong, outputs-bits}
-use Rattle.lines.proofs.fields.outputs.Statement.{statement}
-use Rattle.lines.proofs.fields.outputs.Tie as tie
+use Rattle.lines.proofs.values.outputs.Statement.{statement}
+use Rattle.lines.proofs.values.outputs.Tie as tie
 
 abbrev Inv-loop : tie.InvT-loop
 Inv-loop m field value₀ left₀ value left = (left ≤ length field) × (length field ≤ 8) × (m ≡ length field) × (bits (drop left field) ≡ Is value)

@@ -1,4 +1,4 @@
--- `point` meets its contract. The invariant: the digits passed say `value`, below 10 ^ k, and the field says what the digits left say after it.
+-- `read_number` meets its contract. The invariant: the digits passed say `value`, below 10 ^ k, and the field says what the digits left say after it.
 use mathlib.Core.Bool.{true}
 use mathlib.Core.Path.{_≡_, sym, _∙_}
 use Prim.Native.Nat.{zero-le, _≤_, _<_, _-_, _^_}
@@ -7,29 +7,30 @@ use borrow.Author.Needs.{needs}
 use borrow.Author.Tests.{not-true, not-false}
 use lib.Dec.{lit<}
 use lib.ListN.{length, drop}
-use Rattle.lines.specs.Fields.{digit, point, digitsFrom, wellFormed}
+use Rattle.lines.specs.Fields.{digit, number, digitsFrom, wellFormed}
 use Rattle.lines.proofs.Numbers.{digit-lt, digits-step, digits-wrong, digits-end, wellFormed-le, ten-le, ten-more}
-use Rattle.lines.proofs.fields.point.Statement.{statement}
-use Rattle.lines.proofs.fields.point.Tie as tie
+use Rattle.lines.proofs.values.read_number.Statement.{statement}
+use Rattle.lines.proofs.values.read_number.Tie as tie
 
 abbrev Inv-loop : tie.InvT-loop
-Inv-loop field value₀ k₀ value k = (k ≤ length field) × (length field ≤ 3) × (value < 10 ^ k) × (point field ≡ digitsFrom value (drop k field))
+Inv-loop most field value₀ k₀ value k = (k ≤ length field) × (length field ≤ 4) × (value < 10 ^ k) × (number most field ≡ digitsFrom value (drop k field))
 
 abbrev μ-loop : tie.MeasureT-loop
-μ-loop field value₀ k₀ value k = length field - k
+μ-loop most field value₀ k₀ value k = length field - k
 
 well-formed-requires : tie.Need-well-formed-requires Inv-loop μ-loop
 well-formed-requires c κs = search needs
 
 returns : tie.Need-returns Inv-loop μ-loop
-unfolding point
+unfolding number
 returns c = rw (← c .before .well-formed .ensures, not-true (c .before .well-formed .result) (c .if1 .taken))
 
 loop-holds : tie.Need-loop-holds Inv-loop μ-loop
-unfolding point
+unfolding number
 loop-holds c =
-    let right : wellFormed (c .before .before .before .args .field .now) ≡ true = sym (c .before .well-formed .ensures) ∙ not-false _ (c .if1 .left) in
-    (zero-le, wellFormed-le _ right, lit< tt, rw right)
+    let a = c .before .before .before .args in
+    let right : wellFormed (a .most) (a .field .now) ≡ true = sym (c .before .well-formed .ensures) ∙ not-false _ (c .if1 .left) in
+    (zero-le, omega (arith, wellFormed-le (a .most) (a .field .now) right), lit< tt, rw right)
 
 shared-slice-read-digit : tie.Need-shared-slice-read-digit Inv-loop μ-loop
 shared-slice-read-digit c = search needs
@@ -82,8 +83,8 @@ returns-3 c =
     let l = c .before .loop in
     sym (l .inv .3 ∙ digits-end (a .field .now) (l .k) (l .value) (c .loop-test .left))
 
-pub point-spec : {M : Type 1} → statement M
-point-spec =
+pub read-number-spec : {M : Type 1} → statement M
+read-number-spec =
     tie.close
     (tie.spec
     Inv-loop
