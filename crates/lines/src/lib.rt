@@ -1,6 +1,6 @@
 // Lines after the first: what the lines of a table text and of a listing have alike. The main property: `judge_rows` gives the values that the
 // lines say, or the first refusal (`laterLines` in specs/Rows.antt); and lines are taken exactly where they are the lines written for values
-// (proofs/Kinds, for both kinds of line).
+// (proofs/LineKinds, for both kinds of line).
 pub mod cursor;
 pub mod fields;
 pub mod judge;
