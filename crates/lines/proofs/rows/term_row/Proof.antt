@@ -1,0 +1,118 @@
+-- `term_row` meets its contract: a cube or outputs that are not read make the line wrong.
+use mathlib.Core.Path.{sym, _∙_}
+use native.Mathlib.Omega.{arith}
+use borrow.Author.Needs.{needs}
+use borrow.Author.Tests.{not-true, not-false}
+use Rattle.numbers.proofs.Shifts.{points-le}
+use Rattle.listings.specs.Parts.{bytes}
+use Rattle.lines.specs.Rows.{termRow}
+use Rattle.lines.proofs.Numbers.{outputs-lt}
+use Rattle.lines.proofs.Cubes.{cube-said}
+use Rattle.lines.proofs.rows.term_row.Statement.{statement}
+use Rattle.lines.proofs.rows.term_row.Tie as tie
+
+slice-aggregate-headed : tie.Need-slice-aggregate-headed
+slice-aggregate-headed c = search needs
+
+headed-requires : tie.Need-headed-requires
+headed-requires c κs = search needs
+
+returns : tie.Need-returns
+unfolding termRow bytes
+returns c = rw (← c .before .headed .ensures, not-true (c .before .headed .result) (c .if1 .taken))
+
+field-requires : tie.Need-field-requires
+field-requires c κs = search needs
+
+read-cube-requires : tie.Need-read-cube-requires
+read-cube-requires c κs = search needs
+
+enum-known-term : tie.Need-enum-known-term
+enum-known-term c = search needs
+
+enum-told : tie.Need-enum-told
+enum-told c = search needs
+
+returns-2 : tie.Need-returns-2
+unfolding termRow bytes
+returns-2 c =
+    rw (
+      ← c .before .before .before .before .before .headed .ensures,
+      not-false (c .before .before .before .before .before .headed .result) (c .before .before .before .before .if1 .left),
+      ← c .before .before .before .field .ensures,
+      ← c .before .before .read-cube .ensures,
+      c .enum-told .given .1,
+    )
+
+field-requires-2 : tie.Need-field-requires-2
+field-requires-2 c κs = search needs
+
+outputs-requires : tie.Need-outputs-requires
+outputs-requires c κs = search needs
+
+enum-known-c : tie.Need-enum-known-c
+enum-known-c c = search needs
+
+enum-told-2 : tie.Need-enum-told-2
+enum-told-2 c = search needs
+
+returns-3 : tie.Need-returns-3
+unfolding termRow bytes
+returns-3 c =
+    rw (
+      ← c .before .before .before .before .before .before .before .before .before .before .headed .ensures,
+      not-false (c .before .before .before .before .before .before .before .before .before .before .headed .result) (c .before .before .before .before .before .before .before .before .before .if1 .left),
+      ← c .before .before .before .before .before .before .before .before .field .ensures,
+      ← c .before .before .before .before .before .before .before .read-cube .ensures,
+      c .before .before .before .before .before .term .given .1,
+      ← c .before .before .before .field2 .ensures,
+      ← c .before .before .outputs .ensures,
+      c .enum-told2 .given .1,
+    )
+
+mul-t16 : tie.Need-mul-t16
+mul-t16 c =
+    let a = c .before .before .before .before .before .before .before .before .before .before .before .before .before .before .args in
+    let shown = cube-said (a .n) _ _ _ (sym (c .before .before .before .before .before .before .before .before .read-cube .ensures) ∙ c .before .before .before .before .before .before .term .given .1) in
+    omega (arith, points-le (a .n) (c .before .before .before .before .before .before .before .before .before .before .before .before .before .before .pre .0), shown .complemented)
+
+add-t17 : tie.Need-add-t17
+add-t17 c =
+    let a = c .before .before .before .before .before .before .before .before .before .before .before .before .before .before .args in
+    let shown = cube-said (a .n) _ _ _ (sym (c .before .before .before .before .before .before .before .before .read-cube .ensures) ∙ c .before .before .before .before .before .before .term .given .1) in
+    omega (arith, points-le (a .n) (c .before .before .before .before .before .before .before .before .before .before .before .before .before .before .pre .0), shown .complemented, outputs-lt (a .m) _ _ (sym (c .before .before .before .outputs .ensures) ∙ c .before .c .given .1), points-le (a .m) (c .before .before .before .before .before .before .before .before .before .before .before .before .before .before .pre .1))
+
+returns-4 : tie.Need-returns-4
+unfolding termRow bytes
+returns-4 c =
+    rw (
+      ← c .before .before .before .before .before .before .before .before .before .before .before .headed .ensures,
+      not-false (c .before .before .before .before .before .before .before .before .before .before .before .headed .result) (c .before .before .before .before .before .before .before .before .before .before .if1 .left),
+      ← c .before .before .before .before .before .before .before .before .before .field .ensures,
+      ← c .before .before .before .before .before .before .before .before .read-cube .ensures,
+      c .before .before .before .before .before .before .term .given .1,
+      ← c .before .before .before .before .field2 .ensures,
+      ← c .before .before .before .outputs .ensures,
+      c .before .c .given .1,
+    )
+
+pub term-row-spec : {M : Type 1} → statement M
+term-row-spec =
+    tie.close
+    (tie.spec
+    slice-aggregate-headed
+    headed-requires
+    returns
+    field-requires
+    read-cube-requires
+    enum-known-term
+    enum-told
+    returns-2
+    field-requires-2
+    outputs-requires
+    enum-known-c
+    enum-told-2
+    returns-3
+    mul-t16
+    add-t17
+    returns-4)
