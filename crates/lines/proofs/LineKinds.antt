@@ -236,9 +236,16 @@ module _ (n : ℕ) (says : List ℕ → RowLine) (word : List ℕ) (fieldsOf : �
         }
     judged Wrong said ih f = absurd (no-refusal f)
 
+  -- the line l and the parts after it
+  pub parts-read : (number : ℕ) (l : List ℕ) (ls : List (List ℕ)) (u : List ℕ) → laterLines says n number 0 (replicate 256 0) l ls ≡ rows u
+      → (l ++ separated 10 ls ≡ rowLines word fieldsOf (at u) (2 ^ n) ++ line (bytes "end") []) × Held (2 ^ n) Value u
+  unfolding overNonzero
+  parts-read number l ls u e =
+      let read = lines-read ls number 0 (replicate 256 0) u l (held-none Value) (omega arith) e in
+      (read .characters, read .held)
+
   pub rows-read : (number : ℕ) (s u : List ℕ) → linesFrom says n number 0 (replicate 256 0) s ≡ rows u
       → (s ≡ rowLines word fieldsOf (at u) (2 ^ n) ++ line (bytes "end") []) × Held (2 ^ n) Value u
-  unfolding overNonzero
   rows-read number s u e =
-      let read = lines-read (parts 10 s .others) number 0 (replicate 256 0) u (parts 10 s .first) (held-none Value) (omega arith) e in
-      (sym (parts-joined 10 s) ∙ read .characters, read .held)
+      let read = parts-read number (parts 10 s .first) (parts 10 s .others) u e in
+      (sym (parts-joined 10 s) ∙ read .0, read .1)

@@ -27,20 +27,13 @@ use Rattle.lines.specs.declared.rows.RowLine.the-variants.{Row, End, Wro
 use Rattle.lines.specs.Fields as fields-said
 use Rattle.lines.specs.Fields.{andThen, headed, outputs}
 use Rattle.lines.specs.Cubes.{cubeSaid}
-use Rattle.lines.specs.Rows.{onRow, cubeThen, termRow, ofKind, rowLine}
+use Rattle.lines.specs.Rows.{tableGrammar, listingGrammar, onRow, cubeThen, termRow, ofKind, rowLine}
 use Rattle.lines.proofs.Numbers.{outputs-lt}
 use Rattle.lines.proofs.Written.{number-decimal, outputs-written}
 use Rattle.lines.proofs.FieldsRead.{number-read, outputs-read}
 use Rattle.lines.proofs.Cubes.{cube-written, CubeRead, cube-said}
 use Rattle.lines.proofs.Headed.{two-fields}
 use Rattle.lines.proofs.LineKinds.{LineKind}
-
--- the lines of a table text and of a listing, of n inputs and m outputs
-abbrev pub tableGrammar : ℕ → ℕ → Grammar
-tableGrammar n m = record { kind = Table; n = n; m = m }
-
-abbrev pub listingGrammar : ℕ → ℕ → Grammar
-listingGrammar n m = record { kind = Listing; n = n; m = m }
 
 -- ---- what a line is not
 

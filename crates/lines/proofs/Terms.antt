@@ -20,10 +20,10 @@ use Rattle.numbers.proofs.Shifts.{points-le}
 use Rattle.expansions.specs.Costs.{counted}
 use Rattle.listings.specs.Parts.{bytes}
 use Rattle.listings.specs.Listing.{line, cube, outputBytes, termLine, termLines}
-use Rattle.lines.specs.Rows.{rows, rowLine, rowsFrom}
+use Rattle.lines.specs.Rows.{listingGrammar, rows, rowLine, rowsFrom}
 use Rattle.lines.proofs.Cubes.{cube-shown}
 use Rattle.lines.proofs.LineKinds.{rowLines, Held, rows-written, rows-read}
-use Rattle.lines.proofs.RowLines.{listingGrammar, TermValue, listing-kind}
+use Rattle.lines.proofs.RowLines.{TermValue, listing-kind}
 
 -- what holds of the values read: at each term 256 times the complemented inputs, which are among the term's, and the outputs, which are not all 0
 -- where a line was read

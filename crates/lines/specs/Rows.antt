@@ -20,6 +20,13 @@ use Rattle.lines.specs.Cubes.{cubeSaid}
 
 -- ---- one line
 
+-- the lines of a table text and of a listing, of n inputs and m outputs
+abbrev pub tableGrammar : ℕ → ℕ → Grammar
+tableGrammar n m = record { kind = Table; n = n; m = m }
+
+abbrev pub listingGrammar : ℕ → ℕ → Grammar
+listingGrammar n m = record { kind = Listing; n = n; m = m }
+
 -- "lines `on`, point, outputs": the row of a table text
 unfoldable pub onRow : ℕ → List ℕ → RowLine
 onRow m l =

@@ -8,10 +8,8 @@ use lib.Dec.{eqb}
 use lib.ListN.{length, replicate}
 use Rattle.numbers.specs.Refusals.{sizesRefusal}
 use Rattle.listings.specs.Parts.{parts}
-use Rattle.lines.specs.declared.rows.Grammar.{Grammar}
-use Rattle.lines.specs.declared.rows.Kind.the-variants.{Table}
 use Rattle.lines.specs.Rows as later
-use Rattle.lines.specs.Rows.{RowsRead, rowLine, unfinished, laterLines}
+use Rattle.lines.specs.Rows.{RowsRead, tableGrammar, rowLine, unfinished, laterLines}
 use Rattle.table_texts.specs.declared.sizes.Sizes.{Sizes}
 use Rattle.table_texts.specs.declared.first.FirstLine.{FirstLine}
 use Rattle.table_texts.specs.declared.first.FirstLine.the-variants as first
@@ -23,10 +21,6 @@ use Rattle.table_texts.specs.First.{firstLine}
 pub data Reading : Type 0 where
   given : (sizes : Sizes) (table : List ℕ) → Reading
   refused : (number line : ℕ) → Reading
-
--- the lines after the first are those of a table of these sizes
-abbrev pub grammarOf : Sizes → Grammar
-grammarOf sizes = record { kind = Table; n = sizes .n; m = sizes .m }
 
 -- the sizes with the table that the lines after the first give, or their refusal
 unfoldable pub withSizes : Sizes → RowsRead → Reading
@@ -53,7 +47,7 @@ unfoldable pub allLines : List ℕ → List (List ℕ) → Reading
 allLines l [] = refused (unfinished l) 1
 allLines l (l′ ∷ ls) =
     opened (judgedFirst (firstLine l))
-    (λ sizes. withSizes sizes (laterLines (rowLine (grammarOf sizes)) (sizes .n) 2 0 (replicate 256 0) l′ ls))
+    (λ sizes. withSizes sizes (laterLines (rowLine (tableGrammar (sizes .n) (sizes .m))) (sizes .n) 2 0 (replicate 256 0) l′ ls))
 
 -- "Each line ends with byte 10": what a text means
 unfoldable pub reading : List ℕ → Reading

@@ -15,9 +15,10 @@ ghost use mathlib.Core.Path.{_≡_};
 ghost use Prim.Native.Nat.{ℕ, _≤_, _<_};
 ghost use lib.ListN.{length, replicate};
 ghost use Rattle.numbers.specs.Bytes.{at};
+ghost use Rattle.lines.specs.Rows.{tableGrammar};
 ghost use Rattle.lines.specs.inner.Steps.{rowsAt, Within};
 ghost use Rattle.table_texts.specs.First.{firstLine};
-ghost use Rattle.table_texts.specs.Read.{grammarOf, withSizes, judgedFirst, reading, standsFor, ReadTable};
+ghost use Rattle.table_texts.specs.Read.{withSizes, judgedFirst, reading, standsFor, ReadTable};
 
 // The reading call's answer. A refusal has document 01's number and the line.
 pub enum ReadAnswer {
@@ -42,7 +43,7 @@ fn judge_first(line: &[u8]) -> ReadAnswer
 // Judges the lines after the first, and puts their outputs among the rows.
 fn judge_points(text: &[u8], start: Cursor, sizes: Sizes, rows: &mut [u16; PLACES]) -> ReadAnswer
     requires { ⌜ (Within (now text) start) × (sizes .n ≤ 8) × (sizes .m ≤ 8) ⌝ }
-    ensures { λ r. ⌜ standsFor r (now (rows .exit)) ≡ withSizes sizes (rowsAt (now (text .entry)) (grammarOf sizes) start 0 (now (rows .entry))) ⌝ }
+    ensures { λ r. ⌜ standsFor r (now (rows .exit)) ≡ withSizes sizes (rowsAt (now (text .entry)) (tableGrammar (sizes .n) (sizes .m)) start 0 (now (rows .entry))) ⌝ }
 {
     let grammar = Grammar {
         kind: Kind::Table,

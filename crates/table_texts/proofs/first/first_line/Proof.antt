@@ -3,9 +3,9 @@ use mathlib.Core.Path.{_∙_}
 use borrow.Author.Needs.{needs}
 use borrow.Author.Tests.{not-true, not-false}
 use Rattle.listings.specs.Parts.{bytes}
-use Rattle.table_texts.specs.Lines.{firstLine}
-use Rattle.table_texts.proofs.lines.first_line.Statement.{statement}
-use Rattle.table_texts.proofs.lines.first_line.Tie as tie
+use Rattle.table_texts.specs.First.{firstLine}
+use Rattle.table_texts.proofs.first.first_line.Statement.{statement}
+use Rattle.table_texts.proofs.first.first_line.Tie as tie
 
 slice-aggregate-headed : tie.Need-slice-aggregate-headed
 slice-aggregate-headed c = search needs

@@ -1,10 +1,10 @@
 -- `mixed` meets its contract, by those of `same` and `one_digit`.
 use mathlib.Core.Path.{_∙_}
 use borrow.Author.Needs.{needs}
-use Rattle.table_texts.specs.Fields.{mixed}
+use Rattle.table_texts.specs.First.{mixed}
 use Rattle.listings.specs.Parts.{bytes}
-use Rattle.table_texts.proofs.fields.mixed.Statement.{statement}
-use Rattle.table_texts.proofs.fields.mixed.Tie as tie
+use Rattle.table_texts.proofs.first.mixed.Statement.{statement}
+use Rattle.table_texts.proofs.first.mixed.Tie as tie
 
 slice-aggregate-same : tie.Need-slice-aggregate-same
 slice-aggregate-same c = search needs

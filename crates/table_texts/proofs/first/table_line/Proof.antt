@@ -1,7 +1,7 @@
 -- `table_line` meets its contract: a number that is not read makes the line wrong.
 use borrow.Author.Needs.{needs}
-use Rattle.table_texts.proofs.lines.table_line.Statement.{statement}
-use Rattle.table_texts.proofs.lines.table_line.Tie as tie
+use Rattle.table_texts.proofs.first.table_line.Statement.{statement}
+use Rattle.table_texts.proofs.first.table_line.Tie as tie
 
 enum-known-n : tie.Need-enum-known-n
 enum-known-n c = search needs
