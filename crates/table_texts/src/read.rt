@@ -77,7 +77,7 @@ fn judge_text(text: &[u8], rows: &mut [u16; PLACES]) -> ReadAnswer
 
 // Copies the outputs of each point, which are a byte, into a table with as many places.
 fn copy(rows: &[u16; PLACES], table: &mut [u8])
-    requires { ⌜ (length (now table) ≡ 256) × ((p : ℕ) → at (now rows) p < 256) ⌝ }
+    requires { ⌜ (length (now rows) ≡ 256) × (length (now table) ≡ 256) × ((p : ℕ) → at (now rows) p < 256) ⌝ }
     ensures { λ _. ⌜ now (table .exit) ≡ now (rows .entry) ⌝ }
 {
     let mut i = 0;
