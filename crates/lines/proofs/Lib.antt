@@ -7,3 +7,4 @@ pub mod Headed
 pub mod LineKinds
 pub mod RowLines
 pub mod Terms
+pub mod Refusals
