@@ -3,7 +3,7 @@
 use mathlib.Core.Bool.{Bool, true, false, cond, _&&_, _||_, false≢true}
 use mathlib.Core.List.{List, [], _∷_}
 use mathlib.Core.Path.{_≡_, refl, sym, ap, ap₂, _∙_, subst}
-use Prim.Native.Nat.{ℕ, zero, suc, _+_, _*_, _/_, _%_, _^_, _<_, min}
+use Prim.Native.Nat.{ℕ, zero, suc, _+_, _*_, _%_, _^_, _<_, min}
 use native.Mathlib.Nat.{mod-eq-of-lt, mod-one}
 use native.Mathlib.Numerals.{one-add}
 use native.Mathlib.Omega.{arith}
@@ -18,7 +18,6 @@ use Rattle.numbers.proofs.And.{bit-and, bit-below, and-inside}
 use Rattle.numbers.proofs.Tests.{both-left, both-right}
 use Rattle.listings.specs.Listing.{descending, cubeByte, cube}
 use Rattle.listings.proofs.Characters.{length-cube, descending-ext}
-use Rattle.lines.specs.declared.values.Cube.{Cube}
 use Rattle.lines.specs.declared.values.Cube.the-variants.{Is, Wrong}
 use Rattle.lines.specs.Cubes.{isCharacter, presentIn, complementedIn, cubeCharacters, termShown, complementShown, cubeSaid}
 

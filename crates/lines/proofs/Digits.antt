@@ -1,7 +1,7 @@
 -- How many digits a number has, against the powers of ten: `digitCount-of` from the number's bounds, `digitCount-least` and `digitCount-le` to them.
 use mathlib.Core.Bool.{Bool, true, false, cond}
 use mathlib.Core.Path.{_≡_, refl}
-use Prim.Native.Nat.{ℕ, zero, suc, _-_, _*_, _/_, _^_, _≤_, _<_, zero-le}
+use Prim.Native.Nat.{ℕ, zero, suc, _-_, _/_, _^_, _≤_, _<_, zero-le}
 use native.Mathlib.Decide.{decLe}
 use native.Mathlib.Nat.{pow-le-pow-right, div-lt-iff-lt-mul, le-div-iff-mul-le}
 use native.Mathlib.Omega.{arith}

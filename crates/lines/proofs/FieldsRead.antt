@@ -9,7 +9,7 @@ use native.Mathlib.Omega.{arith}
 use borrow.Author.Tests.{eqb-true, eqb-false, ne-eqb, not-true}
 use lib.Dec.{leb, eqb, lit<}
 use lib.ListN.{length, getD}
-use Rattle.numbers.proofs.Tests.{both-left, both-right}
+use Rattle.numbers.proofs.Tests.{both-right}
 use Rattle.listings.specs.Listing.{descending, digitCount, decimal, outputBytes}
 use Rattle.listings.proofs.Cubes.{outputs-none, outputs-cons, digits-next}
 use Rattle.lines.specs.declared.values.Number.the-variants.{Is, Wrong}

@@ -1,5 +1,4 @@
--- A line from its fields: it is its fields, each after a tab (`fields-joined`), and a line that passes for a word and so many fields has them
--- (`headed-read`).
+-- A line from its fields: a line that passes for a word and so many fields is the word and these fields, each after a tab (`headed-read`).
 use mathlib.Core.Bool.{true}
 use mathlib.Core.List.{List, [], _∷_, _++_}
 use mathlib.Core.Path.{_≡_, refl, sym, ap, ap₂, _∙_}
@@ -20,12 +19,12 @@ unfolding tabbed separated
 tabbed-separated [] = refl
 tabbed-separated (f ∷ fs) = ap (λ (l : List ℕ). 9 ∷ f ++ l) (tabbed-separated fs)
 
-pub fields-joined : (l : List ℕ) → l ≡ parts 9 l .first ++ tabbed (parts 9 l .others)
+fields-joined : (l : List ℕ) → l ≡ parts 9 l .first ++ tabbed (parts 9 l .others)
 fields-joined l = sym (ap (λ (r : List ℕ). parts 9 l .first ++ r) (tabbed-separated (parts 9 l .others)) ∙ parts-joined 9 l)
 
 -- ---- the fields of a line, by their number
 
-pub list-two : (fs : List (List ℕ)) → length fs ≡ 2 → fs ≡ getD fs 0 [] ∷ getD fs 1 [] ∷ []
+list-two : (fs : List (List ℕ)) → length fs ≡ 2 → fs ≡ getD fs 0 [] ∷ getD fs 1 [] ∷ []
 list-two [] e = absurd (omega arith)
 list-two (a ∷ []) e = absurd (omega arith)
 list-two (a ∷ b ∷ []) e = refl
@@ -35,17 +34,17 @@ pub list-three : (fs : List (List ℕ)) → length fs ≡ 3 → fs ≡ getD fs 0
 list-three [] e = absurd (omega arith)
 list-three (a ∷ fs) e = ap (λ (l : List (List ℕ)). a ∷ l) (list-two fs (omega arith))
 
-pub headed-read : (count : ℕ) (word l : List ℕ) → headed (suc count) word l ≡ true → (length (parts 9 l .others) ≡ count) × (parts 9 l .first ≡ word)
+pub headed-read : (count : ℕ) (word l : List ℕ) → headed (suc count) word l ≡ true
+    → (l ≡ word ++ tabbed (parts 9 l .others)) × (length (parts 9 l .others) ≡ count)
 unfolding headed fields
 headed-read count word l e =
     let many : suc (length (parts 9 l .others)) ≡ suc count = eqb-true _ (suc count) (both-left _ (same (parts 9 l .first) word) e) in
-    (omega arith, same-equal (parts 9 l .first) word (both-right (eqb (suc (length (parts 9 l .others))) (suc count)) _ e))
+    let first : parts 9 l .first ≡ word = same-equal (parts 9 l .first) word (both-right (eqb (suc (length (parts 9 l .others))) (suc count)) _ e) in
+    (fields-joined l ∙ ap (λ (w : List ℕ). w ++ tabbed (parts 9 l .others)) first, omega arith)
 
 -- a line of a word and two fields
 pub two-fields : (word l a b : List ℕ) → headed 3 word l ≡ true → field 1 l ≡ a → field 2 l ≡ b → l ≡ word ++ tabbed (a ∷ b ∷ [])
 unfolding fields
 two-fields word l a b h ea eb =
     let shape = headed-read 2 word l h in
-    fields-joined l
-    ∙ ap₂ (λ (w : List ℕ) (fs : List (List ℕ)). w ++ tabbed fs) (shape .1)
-    (list-two (parts 9 l .others) (shape .0) ∙ ap₂ (λ (f g : List ℕ). f ∷ g ∷ []) ea eb)
+    shape .0 ∙ ap (λ (fs : List (List ℕ)). word ++ tabbed fs) (list-two (parts 9 l .others) (shape .1) ∙ ap₂ (λ (f g : List ℕ). f ∷ g ∷ []) ea eb)

@@ -6,7 +6,7 @@ use mathlib.Core.Path.{_≡_, refl, sym, ap, ap₂, subst, _∙_}
 use Prim.Native.Nat.{ℕ, zero, suc, _+_, _^_, _≤_, _<_}
 use native.Mathlib.Numerals.{add-one}
 use native.Mathlib.Omega.{arith}
-use borrow.Author.Tests.{lt-ltb, le-ltb, le-leb, ltb-true, ltb-false, leb-true, eqb-true, eqb-false}
+use borrow.Author.Tests.{lt-ltb, le-leb, ltb-true, ltb-false, leb-true, eqb-true, eqb-false}
 use lib.Dec.{leb, ltb, eqb}
 use lib.ListN.{length, getD, set, replicate, length-set, length-replicate}
 use lib.Seq.{getD-set-same, getD-set-other, set-getD}
@@ -20,11 +20,10 @@ use Rattle.numbers.proofs.Tests.{both-left, both-right}
 use Rattle.listings.specs.Parts.{parts, bytes}
 use Rattle.listings.specs.Listing.{tabbed, line}
 use Rattle.listings.proofs.Joined.{Plain, AllPlain, parts-lines}
-use Rattle.listings.proofs.Meaning.{plain-end}
 use Rattle.listings.proofs.Parts.{separated, parts-joined}
 use Rattle.lines.specs.declared.rows.RowLine.{RowLine}
 use Rattle.lines.specs.declared.rows.RowLine.the-variants.{Row, End, Wrong}
-use Rattle.lines.specs.Rows.{RowsRead, rows, refused, unfinished, ended, judgedRow, laterLines}
+use Rattle.lines.specs.Rows.{RowsRead, rows, refused, ended, judgedRow, laterLines}
 
 -- ---- a kind of line
 

@@ -16,7 +16,7 @@ use Rattle.listings.proofs.Joined.{Plain, parts-fields}
 use Rattle.listings.proofs.Meaning.{plain-decimal, plain-outputs, plain-cube, plain-term}
 use Rattle.listings.proofs.Words.{same-equal}
 use Rattle.lines.specs.declared.values.Number.{Number}
-use Rattle.lines.specs.declared.values.Number.the-variants as number
+use Rattle.lines.specs.declared.values.Number.the-variants as numbers
 use Rattle.lines.specs.declared.values.Cube.{Cube}
 use Rattle.lines.specs.declared.values.Cube.the-variants as cubes
 use Rattle.lines.specs.declared.rows.Grammar.{Grammar}
@@ -24,14 +24,13 @@ use Rattle.lines.specs.declared.rows.Kind.{Kind}
 use Rattle.lines.specs.declared.rows.Kind.the-variants.{Table, Listing}
 use Rattle.lines.specs.declared.rows.RowLine.{RowLine}
 use Rattle.lines.specs.declared.rows.RowLine.the-variants.{Row, End, Wrong}
-use Rattle.lines.specs.Fields as fields-said
-use Rattle.lines.specs.Fields.{andThen, headed, outputs}
+use Rattle.lines.specs.Fields.{andThen, headed, number, outputs}
 use Rattle.lines.specs.Cubes.{cubeSaid}
 use Rattle.lines.specs.Rows.{tableGrammar, listingGrammar, onRow, cubeThen, termRow, ofKind, rowLine}
 use Rattle.lines.proofs.Numbers.{outputs-lt}
 use Rattle.lines.proofs.Written.{number-decimal, outputs-written}
 use Rattle.lines.proofs.FieldsRead.{number-read, outputs-read}
-use Rattle.lines.proofs.Cubes.{cube-written, CubeRead, cube-said}
+use Rattle.lines.proofs.Cubes.{cube-written, cube-said}
 use Rattle.lines.proofs.Headed.{two-fields}
 use Rattle.lines.proofs.LineKinds.{LineKind}
 
@@ -84,21 +83,21 @@ on-said n m p o few small some =
       outputs-written m o small some,
     )
 
-on-fields : (x y : Number) (p o : ℕ) → andThen x Wrong (λ p. andThen y Wrong (λ o. Row p o)) ≡ Row p o → (x ≡ number.Is p) × (y ≡ number.Is o)
-on-fields (number.Is a) (number.Is b) p o e = (cc, cc)
-on-fields (number.Is a) number.Wrong p o e = absurd (wrong-row e)
-on-fields number.Wrong y p o e = absurd (wrong-row e)
+on-fields : (x y : Number) (p o : ℕ) → andThen x Wrong (λ p. andThen y Wrong (λ o. Row p o)) ≡ Row p o → (x ≡ numbers.Is p) × (y ≡ numbers.Is o)
+on-fields (numbers.Is a) (numbers.Is b) p o e = (cc, cc)
+on-fields (numbers.Is a) numbers.Wrong p o e = absurd (wrong-row e)
+on-fields numbers.Wrong y p o e = absurd (wrong-row e)
 
 on-never-end : (x y : Number) → andThen x Wrong (λ p. andThen y Wrong (λ o. Row p o)) ≡ End → ⊥
-on-never-end (number.Is a) (number.Is b) e = end-row (sym e)
-on-never-end (number.Is a) number.Wrong e = wrong-end e
-on-never-end number.Wrong y e = wrong-end e
+on-never-end (numbers.Is a) (numbers.Is b) e = end-row (sym e)
+on-never-end (numbers.Is a) numbers.Wrong e = wrong-end e
+on-never-end numbers.Wrong y e = wrong-end e
 
 on-read : (m : ℕ) (l : List ℕ) (p o : ℕ) → onRow m l ≡ Row p o → (l ≡ bytes "on" ++ tabbed (decimal p ∷ outputBytes m o ∷ [])) × PointValue m p o
 unfolding onRow
 on-read m l p o e =
     let passes = under-test (headed 3 (bytes "on") l) _ p o e in
-    let said = on-fields (fields-said.number 3 (field 1 l)) (outputs m (field 2 l)) p o (passes .1) in
+    let said = on-fields (number 3 (field 1 l)) (outputs m (field 2 l)) p o (passes .1) in
     let found = outputs-read m (field 2 l) o (said .1) in (
       two-fields (bytes "on") l (decimal p) (outputBytes m o) (passes .0) (number-read 3 (field 1 l) p (lit≤ tt) (said .0) .0) (found .0),
       record { below = outputs-lt m (field 2 l) o (said .1); some = found .1 },
@@ -131,19 +130,19 @@ record TermFields (x : Cube) (y : Number) (t v : ℕ) : Type 0 where
   complemented : ℕ
   outputs : ℕ
   cube-field : x ≡ cubes.Is t complemented
-  outputs-field : y ≡ number.Is outputs
+  outputs-field : y ≡ numbers.Is outputs
   value : complemented * 256 + outputs ≡ v
 
 term-fields : (x : Cube) (y : Number) (t v : ℕ) → cubeThen x Wrong (λ t c. andThen y Wrong (λ o. Row t (c * 256 + o))) ≡ Row t v → TermFields x y t v
-term-fields (cubes.Is a c) (number.Is o) t v e =
+term-fields (cubes.Is a c) (numbers.Is o) t v e =
     let term : a ≡ t = cc in
     record { complemented = c; outputs = o; cube-field = ap (λ (a : ℕ). cubes.Is a c) term; outputs-field = refl; value = cc }
-term-fields (cubes.Is a c) number.Wrong t v e = absurd (wrong-row e)
+term-fields (cubes.Is a c) numbers.Wrong t v e = absurd (wrong-row e)
 term-fields cubes.Wrong y t v e = absurd (wrong-row e)
 
 term-never-end : (x : Cube) (y : Number) → cubeThen x Wrong (λ t c. andThen y Wrong (λ o. Row t (c * 256 + o))) ≡ End → ⊥
-term-never-end (cubes.Is a c) (number.Is o) e = end-row (sym e)
-term-never-end (cubes.Is a c) number.Wrong e = wrong-end e
+term-never-end (cubes.Is a c) (numbers.Is o) e = end-row (sym e)
+term-never-end (cubes.Is a c) numbers.Wrong e = wrong-end e
 term-never-end cubes.Wrong y e = wrong-end e
 
 term-read : (n m : ℕ) (l : List ℕ) (t v : ℕ) → n ≤ 8 → m ≤ 8 → termRow n m l ≡ Row t v
@@ -179,7 +178,7 @@ unfolding rowLine onRow termRow
 end-read g l = go (same l (bytes "end")) (g .kind) refl where
   go : (t : Bool) (k : Kind) → same l (bytes "end") ≡ t → cond t End (ofKind k (onRow (g .m) l) (termRow (g .n) (g .m) l)) ≡ End → l ≡ bytes "end"
   go true k h e = same-equal l (bytes "end") h
-  go false Table h e = absurd (never-end (headed 3 (bytes "on") l) _ (on-never-end (fields-said.number 3 (field 1 l)) (outputs (g .m) (field 2 l))) e)
+  go false Table h e = absurd (never-end (headed 3 (bytes "on") l) _ (on-never-end (number 3 (field 1 l)) (outputs (g .m) (field 2 l))) e)
   go false Listing h e = absurd (never-end (headed 3 (bytes "term") l) _ (term-never-end (cubeSaid (g .n) (field 1 l)) (outputs (g .m) (field 2 l))) e)
 
 -- "`on`, point, outputs"

@@ -20,10 +20,11 @@ use Rattle.lines.specs.Cubes.{cubeSaid}
 
 -- ---- one line
 
--- the lines of a table text and of a listing, of n inputs and m outputs
+-- "A table text is": its lines, of n inputs and m outputs
 abbrev pub tableGrammar : ℕ → ℕ → Grammar
 tableGrammar n m = record { kind = Table; n = n; m = m }
 
+-- "A listing .. is": its lines, of n inputs and m outputs
 abbrev pub listingGrammar : ℕ → ℕ → Grammar
 listingGrammar n m = record { kind = Listing; n = n; m = m }
 

@@ -9,7 +9,7 @@ use crate::values::outputs;
 use crate::values::read_cube;
 use crate::values::read_number;
 ghost use mathlib.Core.Path.{_≡_};
-ghost use Prim.Native.Nat.{_≤_, _<_};
+ghost use Prim.Native.Nat.{_≤_};
 ghost use Rattle.lines.specs.Rows.{onRow, termRow, rowLine};
 
 // Which text the lines are of.

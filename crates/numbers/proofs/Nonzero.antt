@@ -1,7 +1,7 @@
 -- What is listed for the numbers below N at which a function is not 0: it follows from the function and the lists below N
 -- (`overNonzero-ext`), and numbers at which the function is 0 add nothing (`overNonzero-zero`).
 use mathlib.Core.List.{List, [], _++_, append-assoc, append-nil}
-use mathlib.Core.Path.{_≡_, refl, ap, ap₂, _∙_}
+use mathlib.Core.Path.{_≡_, refl, ap₂, _∙_}
 use Prim.Native.Nat.{ℕ, zero, suc, _≤_, _<_}
 use native.Mathlib.Decide.{ℕ-discrete}
 use native.Mathlib.Omega.{arith}

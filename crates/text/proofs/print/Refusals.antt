@@ -8,7 +8,6 @@ use lib.Dec.{lit<}
 use lib.ListN.{length, replicate, length-append, length-take}
 use Rattle.table_texts.specs.declared.first.FirstLine.the-variants as first
 use Rattle.table_texts.specs.declared.first.FirstLine.{FirstLine}
-use Rattle.table_texts.specs.declared.read.ReadAnswer.the-variants as answer
 use Rattle.table_texts.specs.declared.sizes.Sizes.{Sizes}
 use Rattle.listings.specs.Parts.{parts, bytes}
 use Rattle.table_texts.specs.First.{firstLine}

@@ -31,9 +31,10 @@ enum-told c = search needs
 returns-2 : tie.Need-returns-2
 unfolding onRow bytes
 returns-2 c =
+    let test = c .before .before .before .before in
     rw (
-      ← c .before .before .before .before .before .headed .ensures,
-      not-false (c .before .before .before .before .before .headed .result) (c .before .before .before .before .if1 .left),
+      ← test .before .headed .ensures,
+      not-false (test .before .headed .result) (test .if1 .left),
       ← c .before .before .before .field .ensures,
       ← c .before .before .read-number .ensures,
       c .enum-told .given .1,
@@ -54,12 +55,14 @@ enum-told-2 c = search needs
 returns-3 : tie.Need-returns-3
 unfolding onRow bytes
 returns-3 c =
+    let first = c .before .before .before .before .before in
+    let test = first .before .before .before .before in
     rw (
-      ← c .before .before .before .before .before .before .before .before .before .before .headed .ensures,
-      not-false (c .before .before .before .before .before .before .before .before .before .before .headed .result) (c .before .before .before .before .before .before .before .before .before .if1 .left),
-      ← c .before .before .before .before .before .before .before .before .field .ensures,
-      ← c .before .before .before .before .before .before .before .read-number .ensures,
-      c .before .before .before .before .before .at .given .1,
+      ← test .before .headed .ensures,
+      not-false (test .before .headed .result) (test .if1 .left),
+      ← first .before .before .before .field .ensures,
+      ← first .before .before .read-number .ensures,
+      first .at .given .1,
       ← c .before .before .before .field2 .ensures,
       ← c .before .before .outputs .ensures,
       c .enum-told2 .given .1,
@@ -68,12 +71,14 @@ returns-3 c =
 returns-4 : tie.Need-returns-4
 unfolding onRow bytes
 returns-4 c =
+    let first = c .before .before .before .before .before .before in
+    let test = first .before .before .before .before in
     rw (
-      ← c .before .before .before .before .before .before .before .before .before .before .before .headed .ensures,
-      not-false (c .before .before .before .before .before .before .before .before .before .before .before .headed .result) (c .before .before .before .before .before .before .before .before .before .before .if1 .left),
-      ← c .before .before .before .before .before .before .before .before .before .field .ensures,
-      ← c .before .before .before .before .before .before .before .before .read-number .ensures,
-      c .before .before .before .before .before .before .at .given .1,
+      ← test .before .headed .ensures,
+      not-false (test .before .headed .result) (test .if1 .left),
+      ← first .before .before .before .field .ensures,
+      ← first .before .before .read-number .ensures,
+      first .at .given .1,
       ← c .before .before .before .before .field2 .ensures,
       ← c .before .before .before .outputs .ensures,
       c .before .value .given .1,

@@ -36,9 +36,10 @@ enum-told c = search needs
 returns-2 : tie.Need-returns-2
 unfolding termRow bytes
 returns-2 c =
+    let test = c .before .before .before .before in
     rw (
-      ← c .before .before .before .before .before .headed .ensures,
-      not-false (c .before .before .before .before .before .headed .result) (c .before .before .before .before .if1 .left),
+      ← test .before .headed .ensures,
+      not-false (test .before .headed .result) (test .if1 .left),
       ← c .before .before .before .field .ensures,
       ← c .before .before .read-cube .ensures,
       c .enum-told .given .1,
@@ -59,12 +60,14 @@ enum-told-2 c = search needs
 returns-3 : tie.Need-returns-3
 unfolding termRow bytes
 returns-3 c =
+    let first = c .before .before .before .before .before in
+    let test = first .before .before .before .before in
     rw (
-      ← c .before .before .before .before .before .before .before .before .before .before .headed .ensures,
-      not-false (c .before .before .before .before .before .before .before .before .before .before .headed .result) (c .before .before .before .before .before .before .before .before .before .if1 .left),
-      ← c .before .before .before .before .before .before .before .before .field .ensures,
-      ← c .before .before .before .before .before .before .before .read-cube .ensures,
-      c .before .before .before .before .before .term .given .1,
+      ← test .before .headed .ensures,
+      not-false (test .before .headed .result) (test .if1 .left),
+      ← first .before .before .before .field .ensures,
+      ← first .before .before .read-cube .ensures,
+      first .term .given .1,
       ← c .before .before .before .field2 .ensures,
       ← c .before .before .outputs .ensures,
       c .enum-told2 .given .1,
@@ -72,25 +75,30 @@ returns-3 c =
 
 mul-t16 : tie.Need-mul-t16
 mul-t16 c =
-    let a = c .before .before .before .before .before .before .before .before .before .before .before .before .before .before .args in
-    let shown = cube-said (a .n) _ _ _ (sym (c .before .before .before .before .before .before .before .before .read-cube .ensures) ∙ c .before .before .before .before .before .before .term .given .1) in
-    omega (arith, points-le (a .n) (c .before .before .before .before .before .before .before .before .before .before .before .before .before .before .pre .0), shown .complemented)
+    let first = c .before .before .before .before .before .before in
+    let start = first .before .before .before .before .before .before .before .before in
+    let shown = cube-said (start .args .n) _ _ _ (sym (first .before .before .read-cube .ensures) ∙ first .term .given .1) in
+    omega (arith, points-le (start .args .n) (start .pre .0), shown .complemented)
 
 add-t17 : tie.Need-add-t17
 add-t17 c =
-    let a = c .before .before .before .before .before .before .before .before .before .before .before .before .before .before .args in
-    let shown = cube-said (a .n) _ _ _ (sym (c .before .before .before .before .before .before .before .before .read-cube .ensures) ∙ c .before .before .before .before .before .before .term .given .1) in
-    omega (arith, points-le (a .n) (c .before .before .before .before .before .before .before .before .before .before .before .before .before .before .pre .0), shown .complemented, outputs-lt (a .m) _ _ (sym (c .before .before .before .outputs .ensures) ∙ c .before .c .given .1), points-le (a .m) (c .before .before .before .before .before .before .before .before .before .before .before .before .before .before .pre .1))
+    let first = c .before .before .before .before .before .before in
+    let start = first .before .before .before .before .before .before .before .before in
+    let shown = cube-said (start .args .n) _ _ _ (sym (first .before .before .read-cube .ensures) ∙ first .term .given .1) in
+    let said = outputs-lt (start .args .m) _ _ (sym (c .before .before .before .outputs .ensures) ∙ c .before .c .given .1) in
+    omega (arith, points-le (start .args .n) (start .pre .0), points-le (start .args .m) (start .pre .1), shown .complemented, said)
 
 returns-4 : tie.Need-returns-4
 unfolding termRow bytes
 returns-4 c =
+    let first = c .before .before .before .before .before .before in
+    let test = first .before .before .before .before in
     rw (
-      ← c .before .before .before .before .before .before .before .before .before .before .before .headed .ensures,
-      not-false (c .before .before .before .before .before .before .before .before .before .before .before .headed .result) (c .before .before .before .before .before .before .before .before .before .before .if1 .left),
-      ← c .before .before .before .before .before .before .before .before .before .field .ensures,
-      ← c .before .before .before .before .before .before .before .before .read-cube .ensures,
-      c .before .before .before .before .before .before .term .given .1,
+      ← test .before .headed .ensures,
+      not-false (test .before .headed .result) (test .if1 .left),
+      ← first .before .before .before .field .ensures,
+      ← first .before .before .read-cube .ensures,
+      first .term .given .1,
       ← c .before .before .before .before .field2 .ensures,
       ← c .before .before .before .outputs .ensures,
       c .before .c .given .1,
