@@ -29,9 +29,10 @@ use Rattle.listings.specs.Listing.{tabbed, line, descending, digitCount, decima
 use Rattle.listings.proofs.Words.{same-equal}
 use Rattle.listings.specs.Meaning.{allows, cubeTrue, literalsIn, outputsSaid, finished, linesOf, ofTerm, overLines, overTerms}
 use Rattle.listings.specs.Meaning.{listingValue, listingProducts, listingLiterals, numberSaid, firstNumbers}
-use Rattle.table_texts.specs.Fields.{digit, oneDigit, mixed, digitsFrom, wellFormed, point, bits, outputs}
-use Rattle.table_texts.specs.Lines.{headed, firstLine, laterLine}
-use Rattle.table_texts.specs.Read.{unfinished, ended, laterLines, judgedFirst, allLines, reading}
+use Rattle.lines.specs.Fields.{digit, oneDigit, digitsFrom, wellFormed, number, bits, outputs, headed}
+use Rattle.lines.specs.Rows.{onRow, rowLine, unfinished, ended, laterLines}
+use Rattle.table_texts.specs.First.{mixed, firstLine}
+use Rattle.table_texts.specs.Read.{withSizes, judgedFirst, allLines, reading}
 use Rattle.text.specs.Compile.{answerListing}
 use Rattle.text.specs.Print.{refusedLine, printedFor, printed}
 use Rattle.designs.specs.Designs.{costOf, termsBelow, computed, Design, states, Holds, markedDesigns, orTable, zeroTable, oneTable, pointTable, withoutTable, printedTable}
@@ -69,8 +70,8 @@ unfolding same agrees allAgree markedDesigns computed termsBelow orTable zeroTab
     answerPair answerMixed answerFixed answerPolarity answerCoefficient answerExpansion
     parts fields bytes tabbed line descending digitCount decimal cubeByte cube outputBytes formLine termLine ifNonzero overNonzero listingWith listing
     allows cubeTrue literalsIn outputsSaid finished linesOf ofTerm overLines overTerms listingValue listingProducts listingLiterals
-    numberSaid firstNumbers digit oneDigit mixed digitsFrom wellFormed point bits outputs headed firstLine laterLine
-    unfinished ended laterLines judgedFirst allLines reading answerListing refusedLine printedFor printed
+    numberSaid firstNumbers digit oneDigit mixed digitsFrom wellFormed number bits outputs headed firstLine onRow rowLine
+    unfinished ended laterLines withSizes judgedFirst allLines reading answerListing refusedLine printedFor printed
 all-agree = tt
 
 pub designs-hold : (d : Design) → List·Memᴰ d markedDesigns → Holds d

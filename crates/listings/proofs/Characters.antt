@@ -1,7 +1,7 @@
 -- The characters of numbers, cubes and outputs: how many there are, and which stands at each place.
 use mathlib.Core.Bool.{Bool, true, false, cond}
 use mathlib.Core.List.{[], _∷_}
-use mathlib.Core.Path.{_≡_, refl, ap, _∙_}
+use mathlib.Core.Path.{_≡_, refl, ap, ap₂, _∙_}
 use Prim.Native.Nat.{ℕ, zero, suc, _+_, _-_, _/_, _%_, _^_, _≤_, _<_}
 use native.Mathlib.Nat.{not-suc-le-zero, le-of-suc-le-suc}
 use native.Mathlib.Omega.{arith}
@@ -24,6 +24,11 @@ unfolding descending
 at-descending zero g k h = absurd (not-suc-le-zero h)
 at-descending (suc N) g zero h = ap g (omega arith)
 at-descending (suc N) g (suc k) h = at-descending N g k (le-of-suc-le-suc h) ∙ ap g (omega arith)
+
+pub descending-ext : (N : ℕ) (g h : ℕ → ℕ) → ((i : ℕ) → i < N → g i ≡ h i) → descending N g ≡ descending N h
+unfolding descending
+descending-ext zero g h e = refl
+descending-ext (suc N) g h e = ap₂ _∷_ (e N (omega arith)) (descending-ext N g h (λ i l. e i (omega arith)))
 
 -- ---- numbers
 

@@ -1,13 +1,14 @@
 -- What the fields of a printed line say. A cube is true where its term's literals are (`cube-holds`) and has the term's literals
--- (`cube-literals`), outputs say the coefficient (`outputs-said`), and a number's digits say the number (`decimal-said`).
+-- (`cube-literals`), it shows of a polarity the bits at its term (`cube-masked`), outputs say the coefficient (`outputs-said`), and a number's digits say the number (`decimal-said`).
 use mathlib.Core.Bool.{Bool, true, false, cond, _&&_}
 use mathlib.Core.List.{[], _∷_}
-use mathlib.Core.Path.{_≡_, refl, ap, _∙_}
-use Prim.Native.Nat.{ℕ, zero, suc, _+_, _-_, _*_, _/_, _%_, _^_, _<_}
+use mathlib.Core.Path.{_≡_, refl, ap, ap₂, _∙_}
+use Prim.Native.Nat.{ℕ, zero, suc, _+_, _-_, _*_, _/_, _%_, _^_, _<_, min}
 use native.Mathlib.Decide.{ℕ-discrete}
 use native.Mathlib.Nat.{not-suc-le-zero, pow-suc, div-eq-of-lt, div-div-eq-div-mul, div-one}
 use native.Mathlib.Omega.{arith}
 use borrow.Author.Tests.{ltb-true, ltb-false}
+use lib.Bits.{bitAnd}
 use lib.Count.{ones}
 use lib.Dec.{T, eqb, ltb, eqb→eq}
 use lib.Pow.{pow-mono}
@@ -19,7 +20,8 @@ use Rattle.numbers.proofs.Bytes.{tabulate-ext}
 use Rattle.numbers.proofs.Tests.{same-test, and-intro, and-left, and-right}
 use Rattle.algebra.proofs.Terms.{holds-words}
 use Rattle.numbers.proofs.Xor.{low-lt}
-use Rattle.numbers.proofs.Bits.{bit-zero, bit-suc, bit-le}
+use Rattle.numbers.proofs.Ands.{bit-and}
+use Rattle.numbers.proofs.Bits.{bit-zero, bit-suc, bit-le, bit-lt}
 use Rattle.numbers.proofs.Pack.{ones-bits}
 use Rattle.listings.specs.Listing.{descending, digitCount, decimal, cubeByte, cube, outputBytes}
 use Rattle.listings.specs.Meaning.{allows, cubeTrue, literalsIn, outputsSaid, numberSaid}
@@ -94,6 +96,22 @@ cube-bits (suc n) t w = omega (arith, character-literal (bit n t) (bit n w) (low
 
 pub cube-literals : (n t w : ℕ) → t < 2 ^ n → literalsIn (cube n t w) ≡ ones t
 cube-literals n t w h = cube-bits n t w ∙ ones-bits n t h
+
+-- ---- of a polarity a cube shows the bits at its term, and no others
+
+character-shown : (t w : ℕ) → t < 2 → w < 2 → cubeByte t (min t w) ≡ cubeByte t w
+unfolding cubeByte
+character-shown zero w ht hw = refl
+character-shown (suc zero) zero ht hw = refl
+character-shown (suc zero) (suc zero) ht hw = refl
+character-shown (suc zero) (suc (suc w)) ht hw = absurd (omega arith)
+character-shown (suc (suc t)) w ht hw = absurd (omega arith)
+
+pub cube-masked : (n t w : ℕ) → cube n t (bitAnd t w) ≡ cube n t w
+unfolding cube descending
+cube-masked zero t w = refl
+cube-masked (suc n) t w =
+    ap₂ _∷_ (ap (cubeByte (bit n t)) (bit-and n t w) ∙ character-shown (bit n t) (bit n w) (bit-lt n t) (bit-lt n w)) (cube-masked n t w)
 
 -- ---- outputs
 

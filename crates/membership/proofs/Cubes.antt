@@ -3,7 +3,7 @@
 -- `value-shown`).
 use mathlib.Core.Bool.{Bool, cond}
 use mathlib.Core.List.{List, [], _∷_}
-use mathlib.Core.Path.{_≡_, refl, sym, ap, ap₂, _∙_}
+use mathlib.Core.Path.{_≡_, refl, sym, ap, _∙_}
 use Prim.Native.Nat.{ℕ, zero, suc, _-_, _^_, _<_, min}
 use native.Mathlib.Decide.{ℕ-discrete}
 use native.Mathlib.Omega.{arith}
@@ -19,10 +19,10 @@ use Rattle.numbers.proofs.Pack.{bits-equal}
 use Rattle.numbers.proofs.Sums.{fold-ext}
 use Rattle.numbers.proofs.Tests.{only-zero}
 use Rattle.algebra.specs.Terms.{holds, value}
-use Rattle.listings.specs.Listing.{line, descending, cubeByte, cube, outputBytes, termLine, termLines, printedCubes}
+use Rattle.listings.specs.Listing.{line, cubeByte, cube, outputBytes, termLine, termLines, printedCubes}
 use Rattle.listings.specs.Parts.{bytes}
 use Rattle.listings.proofs.Characters.{at-cube}
-use Rattle.listings.proofs.Cubes.{character-literal}
+use Rattle.listings.proofs.Cubes.{character-literal, cube-masked}
 
 -- ---- one character
 
@@ -33,14 +33,6 @@ character-complement (suc zero) zero ht hw = refl
 character-complement (suc zero) (suc zero) ht hw = refl
 character-complement (suc zero) (suc (suc w)) ht hw = absurd (omega arith)
 character-complement (suc (suc t)) w ht hw = absurd (omega arith)
-
-character-shown : (t w : ℕ) → t < 2 → w < 2 → cubeByte t (min t w) ≡ cubeByte t w
-unfolding cubeByte
-character-shown zero w ht hw = refl
-character-shown (suc zero) zero ht hw = refl
-character-shown (suc zero) (suc zero) ht hw = refl
-character-shown (suc zero) (suc (suc w)) ht hw = absurd (omega arith)
-character-shown (suc (suc t)) w ht hw = absurd (omega arith)
 
 -- ---- one cube
 
@@ -61,12 +53,6 @@ module _ (n t w t′ w′ : ℕ) (ht : t < 2 ^ n) (ht′ : t′ < 2 ^ n) (e : cu
         bit-and i t w ∙ sym (character-complement (bit i t) (bit i w) (bit-lt i t) (bit-lt i w)) ∙ ap (λ (b : ℕ). cond (eqb b 48) 1 0) (characters i h)
         ∙ character-complement (bit i t′) (bit i w′) (bit-lt i t′) (bit-lt i w′) ∙ sym (bit-and i t′ w′)),
   )
-
-cube-masked : (n t w : ℕ) → cube n t (bitAnd t w) ≡ cube n t w
-unfolding cube descending
-cube-masked zero t w = refl
-cube-masked (suc n) t w =
-    ap₂ _∷_ (ap (cubeByte (bit n t)) (bit-and n t w) ∙ character-shown (bit n t) (bit n w) (bit-lt n t) (bit-lt n w)) (cube-masked n t w)
 
 -- of a polarity only the bits at the term count: for its cube, its line and its truth at a point
 module _ (t w w′ : ℕ) (e : bitAnd t w ≡ bitAnd t w′) where

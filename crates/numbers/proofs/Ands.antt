@@ -107,9 +107,12 @@ pub inside-and : (a b : ℕ) → T (inside a b) → bitAnd a b ≡ a
 unfolding inside
 inside-and a b h = eqb→eq (bitAnd a b) a h
 
-pub and-inside : (a b : ℕ) → T (inside (bitAnd a b) a)
+pub inside-of : (a b : ℕ) → bitAnd a b ≡ a → T (inside a b)
 unfolding inside
-and-inside a b = eqb-of (bitAnd (bitAnd a b) a) (bitAnd a b) (and-comm (bitAnd a b) a ∙ and-again a b)
+inside-of a b e = eqb-of (bitAnd a b) a e
+
+pub and-inside : (a b : ℕ) → T (inside (bitAnd a b) a)
+and-inside a b = inside-of (bitAnd a b) a (and-comm (bitAnd a b) a ∙ and-again a b)
 
 inside-trans : (a b c : ℕ) → T (inside a b) → T (inside b c) → T (inside a c)
 inside-trans a b c h k = inside-from a c (λ i e. inside-to b c k i (inside-to a b h i e))

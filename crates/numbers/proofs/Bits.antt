@@ -1,15 +1,15 @@
 -- The bits of a number: by the lowest bit and the rest, through an exclusive OR, and the bits of one number among those of another.
 use mathlib.Core.Path.{_≡_, refl, sym, ap, _∙_}
 use mathlib.Core.Bool.{Bool, true, _&&_}
-use Prim.Native.Nat.{ℕ, zero, suc, _+_, _*_, _/_, _%_, _^_, _≤_, _<_, min}
-use native.Mathlib.Nat.{zero-div, div-one, pow-suc, mul-comm, div-div-eq-div-mul, div-eq-of-lt}
+use Prim.Native.Nat.{ℕ, zero, suc, _+_, _-_, _*_, _/_, _%_, _^_, _≤_, _<_, min}
+use native.Mathlib.Nat.{zero-div, div-one, pow-suc, mul-comm, add-comm, add-mul-div-right, div-div-eq-div-mul, div-eq-of-lt}
 use native.Mathlib.Decide.{decLe}
 use native.Mathlib.Omega.{arith}
 use borrow.Author.Tests.{ne-eqb}
 use lib.Arith.{bin-ind, digits-div, digits-mod, mod-mul}
 use lib.Bits.{bitXor, bitAnd, differ, and-step, xor-shr}
 use lib.Dec.{eqb, T, eqb→eq}
-use lib.Pow.{pow-pos}
+use lib.Pow.{pow-pos, pow-add}
 use Rattle.numbers.specs.Bits.{bit, inside}
 use Rattle.numbers.proofs.Tests.{and-intro, and-left, and-right, eqb-of, eqb-same}
 use Rattle.numbers.proofs.Xor.{low-lt, xor-low}
@@ -26,6 +26,15 @@ bit-zero x = ap (λ (y : ℕ). y % 2) (div-one x)
 
 pub bit-suc : (i x : ℕ) → bit (suc i) x ≡ bit i (x / 2)
 bit-suc i x = ap (λ (y : ℕ). y % 2) (ap (λ (y : ℕ). x / y) (pow-suc 2 i ∙ mul-comm (2 ^ i) 2) ∙ sym (div-div-eq-div-mul x 2 (2 ^ i)))
+
+-- a multiple of 2 ^ N does not show in the bits below N
+pub bit-below : (p N a b : ℕ) → p < N → bit p (a * 2 ^ N + b) ≡ bit p b
+bit-below p N a b h =
+    let e : N ≡ suc (N - suc p) + p = omega arith in
+    let q : 2 ^ N ≡ 2 ^ (N - suc p) * 2 * 2 ^ p =
+    ap (λ (x : ℕ). 2 ^ x) e ∙ pow-add 2 (suc (N - suc p)) p ∙ ap (λ (x : ℕ). x * 2 ^ p) (pow-suc 2 (N - suc p)) in
+    let r : a * 2 ^ N ≡ a * 2 ^ (N - suc p) * 2 * 2 ^ p = ap (λ (x : ℕ). a * x) q ∙ omega arith in
+    rw (add-comm (a * 2 ^ N) b, r, add-mul-div-right b (a * 2 ^ (N - suc p) * 2) (pow-pos p)) (omega arith)
 
 pub bit-xor : (i a b : ℕ) → bit i (bitXor a b) ≡ differ (bit i a) (bit i b)
 bit-xor i a b = ap (λ (x : ℕ). x % 2) (xor-shr a b i) ∙ xor-low (a / 2 ^ i) (b / 2 ^ i)

@@ -27,6 +27,14 @@ unfolding ifNonzero
 nonzero-ext zero xs ys h = refl
 nonzero-ext (suc c) xs ys h = h (omega arith)
 
+-- two numbers that are 0 together ask for the same
+pub nonzero-same : {A : Type 0} (c d : ℕ) (xs : List A) → (c ≡ 0 → d ≡ 0) → (d ≡ 0 → c ≡ 0) → ifNonzero c xs ≡ ifNonzero d xs
+unfolding ifNonzero
+nonzero-same zero zero xs f g = refl
+nonzero-same zero (suc d) xs f g = absurd (omega (arith, f refl))
+nonzero-same (suc c) zero xs f g = absurd (omega (arith, g refl))
+nonzero-same (suc c) (suc d) xs f g = refl
+
 -- ---- the numbers below N
 
 pub overNonzero-more : {A : Type 0} (g : ℕ → List A) (c : ℕ → ℕ) (N : ℕ) (s : List A)

@@ -12,7 +12,9 @@ use lib.Dec.{ltb, lit<, lit≤}
 use lib.ListN.{length, take, replicate, length-append, length-replicate, getD-replicate, List·getD-eq-default}
 use lib.Seq.{take-all}
 use Rattle.numbers.specs.Bytes.{at}
+use Rattle.numbers.specs.Nonzero.{ifNonzero, overNonzero}
 use Rattle.numbers.specs.Sums.{foldBelow, sumBelow}
+use Rattle.numbers.proofs.Nonzero.{nonzero-some, overNonzero-zero}
 use Rattle.table_texts.specs.declared.sizes.Sizes.{Sizes}
 use Rattle.table_texts.specs.Accepted.{Accepted}
 use Rattle.listings.specs.Parts.{bytes}
@@ -22,10 +24,9 @@ use Rattle.table_texts.proofs.read.Accepted.{reading-accepted}
 use Rattle.listings.proofs.Characters.{length-decimal, length-outputs}
 use Rattle.listings.proofs.Longest.{digitCount-one}
 use Rattle.numbers.proofs.Shifts.{points-le}
-use Rattle.table_texts.specs.TableTexts.{pointLine, ifListed, pointLines, sizesLine, textWith, tableText, dashText}
+use Rattle.table_texts.specs.TableTexts.{pointLine, pointLines, sizesLine, textWith, tableText, dashText}
 use Rattle.table_texts.proofs.Acceptance.{table-text-accepted}
 use Rattle.table_texts.proofs.Exactness.{accepted-text}
-use Rattle.table_texts.proofs.PointLines.{listed-some, pointLines-zero}
 
 -- ---- the points' lines
 
@@ -33,18 +34,18 @@ length-pointLine : (m p o : ℕ) → length (pointLine m p o) ≡ 5 + digitCount
 unfolding pointLine line tabbed bytes
 length-pointLine m p o = simp (length-append, length-decimal, length-outputs) (omega arith)
 
-listed-le : (o : ℕ) (l : List ℕ) → length (ifListed o l) ≤ length l
-unfolding ifListed
+listed-le : (o : ℕ) (l : List ℕ) → length (ifNonzero o l) ≤ length l
+unfolding ifNonzero
 listed-le zero l = omega arith
 listed-le (suc o) l = omega arith
 
 pointLines-le : (m : ℕ) (f : ℕ → ℕ) (N : ℕ) → length (pointLines m f N) ≤ N * (5 + m) + sumBelow N digitCount
-unfolding pointLines foldBelow
+unfolding overNonzero foldBelow
 pointLines-le m f zero = omega arith
 pointLines-le m f (suc N) =
     omega (
       arith,
-      length-append (pointLines m f N) (ifListed (f N) (pointLine m N (f N))),
+      length-append (pointLines m f N) (ifNonzero (f N) (pointLine m N (f N))),
       pointLines-le m f N,
       listed-le (f N) (pointLine m N (f N)),
       length-pointLine m N (f N),
@@ -70,7 +71,7 @@ length-textWith k z t = simp length-append (omega arith)
 text-length : (k : List ℕ) (z : Sizes) (t : List ℕ) → Accepted z t → length k ≡ 1 → length (textWith k z t) ≤ 4002
 text-length k z t g h =
     let same : pointLines (z .m) (at t) 256 ≡ pointLines (z .m) (at t) (2 ^ z .n) =
-    pointLines-zero (z .m) (at t) (2 ^ z .n) 256 (g .table .rest) (points-le (z .n) (g .sized .inputs .1)) in
+    overNonzero-zero (λ p. pointLine (z .m) p (at t p)) (at t) (2 ^ z .n) 256 (g .table .rest) (points-le (z .n) (g .sized .inputs .1)) in
     let points : length (pointLines (z .m) (at t) (2 ^ z .n)) ≤ 256 * (5 + z .m) + sumBelow 256 digitCount = rw same at (pointLines-le (z .m) (at t) 256) in
     let first : length (sizesLine z k) ≡ 12 = length-sizesLine z k (omega (arith, g .sized .inputs)) (omega (arith, g .sized .outputs)) h in
     omega (arith, length-textWith k z t, g .sized .outputs, digits-total)
@@ -93,11 +94,11 @@ accepted-text-first s z t e = take-all 8192 s (omega (arith, accepted-text-lengt
 -- ---- the longest text
 
 pointLines-full : (m : ℕ) (f : ℕ → ℕ) (N : ℕ) → ((p : ℕ) → p < N → f p ≡ 0 → ⊥) → length (pointLines m f N) ≡ N * (5 + m) + sumBelow N digitCount
-unfolding pointLines foldBelow
+unfolding overNonzero foldBelow
 pointLines-full m f zero some = omega arith
 pointLines-full m f (suc N) some =
-    let last : ifListed (f N) (pointLine m N (f N)) ≡ pointLine m N (f N) = listed-some (f N) (pointLine m N (f N)) (some N (omega arith)) in
-    length-append (pointLines m f N) (ifListed (f N) (pointLine m N (f N)))
+    let last : ifNonzero (f N) (pointLine m N (f N)) ≡ pointLine m N (f N) = nonzero-some (f N) (pointLine m N (f N)) (some N (omega arith)) in
+    length-append (pointLines m f N) (ifNonzero (f N) (pointLine m N (f N)))
     ∙ rw (last, length-pointLine m N (f N), pointLines-full m f N (λ p h. some p (omega arith))) (omega arith)
 
 -- eight inputs, eight outputs, and every output 1 at every point

@@ -1,8 +1,5 @@
-pub mod Numbers
-pub mod Written
-pub mod PointLines
+pub mod SizesLine
+pub mod Points
 pub mod Acceptance
-pub mod FieldsRead
-pub mod LinesRead
 pub mod Exactness
 pub mod Length

@@ -1,6 +1,4 @@
-pub mod Fields
-pub mod Lines
+pub mod First
 pub mod Read
 pub mod Accepted
 pub mod TableTexts
-pub mod inner

@@ -1,8 +1,9 @@
 -- The text that is written for the sizes and the table of a design. Document 01, "Text in, listing out": "A table text is: `table`, n, m, k ..;
 -- lines `on`, point, outputs ..; `end`." Its lines, its numbers in base ten and its outputs are those of a listing.
 use mathlib.Core.List.{List, [], _∷_, _++_}
-use Prim.Native.Nat.{ℕ, zero, suc, _^_}
+use Prim.Native.Nat.{ℕ, _^_}
 use Rattle.numbers.specs.Bytes.{at}
+use Rattle.numbers.specs.Nonzero.{overNonzero}
 use Rattle.table_texts.specs.declared.sizes.Sizes.{Sizes}
 use Rattle.listings.specs.Parts.{bytes}
 use Rattle.listings.specs.Listing.{line, decimal, outputBytes}
@@ -11,15 +12,10 @@ use Rattle.listings.specs.Listing.{line, decimal, outputBytes}
 unfoldable pub pointLine : ℕ → ℕ → ℕ → List ℕ
 pointLine m p o = line (bytes "on") (decimal p ∷ outputBytes m o ∷ [])
 
--- a point's line where its outputs are "not all `0`", and no byte where they are: "Points not listed are all zero."
-unfoldable pub ifListed : ℕ → List ℕ → List ℕ
-ifListed zero l = []
-ifListed (suc o) l = l
-
--- the lines of the points below N that are not zero; f p are the outputs of the point p: "Points ascend strictly."
-unfoldable pub pointLines : ℕ → (ℕ → ℕ) → ℕ → List ℕ
-pointLines m f zero = []
-pointLines m f (suc p) = pointLines m f p ++ ifListed (f p) (pointLine m p (f p))
+-- the lines of the points below N that are "not all `0`"; f p are the outputs of the point p: "Points ascend strictly. Points not listed are all
+-- zero."
+abbrev pub pointLines : ℕ → (ℕ → ℕ) → ℕ → List ℕ
+pointLines m f N = overNonzero (λ p. pointLine m p (f p)) f N
 
 -- "`table`, n, m, k": the first line with the given characters for k
 unfoldable pub sizesLine : Sizes → List ℕ → List ℕ

@@ -1,126 +1,29 @@
 // Reading a table text, line by line; the first bad line counts. For every text and every lent table, `read_table` gives the answer and
 // leaves the bytes that `reading` in specs/Read.antt says.
-use crate::cursor::Cursor;
-use crate::lines::FirstLine;
-use crate::lines::LaterLine;
-use crate::lines::first_line;
-use crate::lines::later_line;
+use crate::first::FirstLine;
+use crate::first::first_line;
 use crate::sizes::Sizes;
+use lines::cursor::Cursor;
+use lines::judge::PLACES;
+use lines::judge::RowsAnswer;
+use lines::judge::judge_rows;
+use lines::judge::unfinished;
+use lines::rows::Grammar;
+use lines::rows::Kind;
 use numbers::refusals::judge_sizes;
 ghost use mathlib.Core.Path.{_≡_};
-ghost use mathlib.Core.Bool.{cond, _&&_};
-ghost use Prim.Native.Nat.{ℕ, _+_, _^_, _≤_, _<_};
-ghost use lib.Dec.{ltb, leb};
-ghost use lib.ListN.{length, set, replicate};
-ghost use Rattle.table_texts.specs.Lines.{firstLine};
-ghost use Rattle.table_texts.specs.Read.{refused, unfinished, judgedFirst, reading, standsFor, ReadTable};
-ghost use Rattle.table_texts.specs.inner.Steps.{linesAt, Within, Stepped};
+ghost use Prim.Native.Nat.{ℕ, _≤_, _<_};
+ghost use lib.ListN.{length, replicate};
+ghost use Rattle.numbers.specs.Bytes.{at};
+ghost use Rattle.lines.specs.Rows.{tableGrammar};
+ghost use Rattle.lines.specs.inner.Steps.{rowsAt, Within};
+ghost use Rattle.table_texts.specs.First.{firstLine};
+ghost use Rattle.table_texts.specs.Read.{withSizes, judgedFirst, reading, standsFor, ReadTable};
 
 // The reading call's answer. A refusal has document 01's number and the line.
 pub enum ReadAnswer {
     Given(Sizes),
     Refused { number: usize, line: usize },
-}
-
-// What a line after the first leads to: the next line, with the least point that it may have; the table; or a refusal.
-enum Step {
-    Next(Cursor, usize),
-    Done,
-    Refused { number: usize, line: usize },
-}
-
-// Puts a point's outputs into the table, if the point is below 2^n and at least `least`; else the table stays.
-fn put_outputs(
-    n: usize,
-    least: usize,
-    point: usize,
-    outputs: usize,
-    table: &mut [u8; Sizes::TABLE],
-) -> bool
-    requires { ⌜ (n ≤ 8) × (outputs < 256) ⌝ }
-    ensures { λ r. ⌜ r ≡ (ltb point (2 ^ n) && leb least point) ⌝ }
-    ensures { λ r. ⌜ now (table .exit) ≡ cond r (set (now (table .entry)) point outputs) (now (table .entry)) ⌝ }
-{
-    if (1 << n) <= point {
-        return false;
-    }
-    if point < least {
-        return false;
-    }
-    table[point] = outputs as u8;
-    true
-}
-
-// The refusal of a line that no byte 10 ends: 6 where nothing stands there, else 1.
-fn unfinished(line: &[u8]) -> usize
-    ensures { λ r. ⌜ ((k : ℕ) → refused r k ≡ unfinished (now (line .entry)) k) ⌝ }
-{
-    if line.len() == 0 { 6 } else { 1 }
-}
-
-// Judges the line at the cursor, one after the first, and puts its outputs into the table.
-fn judge_line(
-    text: &[u8],
-    cursor: Cursor,
-    sizes: Sizes,
-    least: usize,
-    table: &mut [u8; Sizes::TABLE],
-) -> Step
-    requires { ⌜ (Within (now text) cursor) × (sizes .n ≤ 8) × (sizes .m ≤ 8) ⌝ }
-    ensures { λ r. ⌜ Stepped (now (text .entry)) cursor sizes least (now (table .entry)) r (now (table .exit)) ⌝ }
-{
-    let line = cursor.line;
-    let stop = cursor.seek(text, b'\n');
-    let from = cursor.at;
-    let to = stop.at;
-    if to == text.len() {
-        return Step::Refused {
-            number: unfinished(&text[from..to]),
-            line,
-        };
-    }
-    match later_line(sizes.m, &text[from..to]) {
-        LaterLine::On { point, outputs } => {
-            if put_outputs(sizes.n, least, point, outputs, table) {
-                return Step::Next(stop.next_line(), point + 1);
-            }
-            Step::Refused { number: 5, line }
-        }
-        LaterLine::End => {
-            if to + 1 == text.len() {
-                return Step::Done;
-            }
-            Step::Refused {
-                number: 6,
-                line: line + 1,
-            }
-        }
-        LaterLine::Wrong => Step::Refused { number: 1, line },
-    }
-}
-
-// Judges the lines from the cursor on, and puts their outputs into the table.
-fn judge_lines(
-    text: &[u8],
-    start: Cursor,
-    sizes: Sizes,
-    table: &mut [u8; Sizes::TABLE],
-) -> ReadAnswer
-    requires { ⌜ (Within (now text) start) × (sizes .n ≤ 8) × (sizes .m ≤ 8) ⌝ }
-    ensures { λ r. ⌜ standsFor r (now (table .exit)) ≡ linesAt (now (text .entry)) sizes start 0 (now (table .entry)) ⌝ }
-{
-    let mut cursor = start;
-    let mut least = 0;
-    loop {
-        match judge_line(text, cursor, sizes, least, table) {
-            Step::Next(c, p) => {
-                cursor = c;
-                least = p;
-            }
-            Step::Done => return ReadAnswer::Given(sizes),
-            Step::Refused { number, line } => return ReadAnswer::Refused { number, line },
-        }
-    }
 }
 
 // Judges the first line: the order is 1, 2, 3, 4.
@@ -137,10 +40,26 @@ fn judge_first(line: &[u8]) -> ReadAnswer
     ReadAnswer::Given(sizes)
 }
 
-// Judges the text from its first line on, and fills the table, which comes all zero.
-fn judge_text(text: &[u8], table: &mut [u8; Sizes::TABLE]) -> ReadAnswer
-    requires { ⌜ now table ≡ replicate 256 0 ⌝ }
-    ensures { λ r. ⌜ standsFor r (now (table .exit)) ≡ reading (now (text .entry)) ⌝ }
+// Judges the lines after the first, and puts their outputs among the rows.
+fn judge_points(text: &[u8], start: Cursor, sizes: Sizes, rows: &mut [u16; PLACES]) -> ReadAnswer
+    requires { ⌜ (Within (now text) start) × (sizes .n ≤ 8) × (sizes .m ≤ 8) ⌝ }
+    ensures { λ r. ⌜ standsFor r (now (rows .exit)) ≡ withSizes sizes (rowsAt (now (text .entry)) (tableGrammar (sizes .n) (sizes .m)) start 0 (now (rows .entry))) ⌝ }
+{
+    let grammar = Grammar {
+        kind: Kind::Table,
+        n: sizes.n,
+        m: sizes.m,
+    };
+    match judge_rows(text, start, grammar, rows) {
+        RowsAnswer::Done => ReadAnswer::Given(sizes),
+        RowsAnswer::Refused { number, line } => ReadAnswer::Refused { number, line },
+    }
+}
+
+// Judges the text from its first line on, and fills the rows, which come all zero.
+fn judge_text(text: &[u8], rows: &mut [u16; PLACES]) -> ReadAnswer
+    requires { ⌜ now rows ≡ replicate 256 0 ⌝ }
+    ensures { λ r. ⌜ standsFor r (now (rows .exit)) ≡ reading (now (text .entry)) ⌝ }
 {
     let stop = Cursor::new().seek(text, b'\n');
     let to = stop.at;
@@ -151,19 +70,19 @@ fn judge_text(text: &[u8], table: &mut [u8; Sizes::TABLE]) -> ReadAnswer
         };
     }
     match judge_first(&text[..to]) {
-        ReadAnswer::Given(sizes) => judge_lines(text, stop.next_line(), sizes, table),
+        ReadAnswer::Given(sizes) => judge_points(text, stop.next_line(), sizes, rows),
         ReadAnswer::Refused { number, line } => ReadAnswer::Refused { number, line },
     }
 }
 
-// Copies bytes into a buffer of the same length.
-fn copy(from: &[u8], to: &mut [u8])
-    requires { ⌜ length (now from) ≡ length (now to) ⌝ }
-    ensures { λ _. ⌜ now (to .exit) ≡ now (from .entry) ⌝ }
+// Copies the outputs of each point, which are a byte, into a table with as many places.
+fn copy(rows: &[u16; PLACES], table: &mut [u8])
+    requires { ⌜ (length (now rows) ≡ 256) × (length (now table) ≡ 256) × ((p : ℕ) → at (now rows) p < 256) ⌝ }
+    ensures { λ _. ⌜ now (table .exit) ≡ now (rows .entry) ⌝ }
 {
     let mut i = 0;
-    while i < to.len() {
-        to[i] = from[i];
+    while i < table.len() {
+        table[i] = rows[i] as u8;
         i += 1;
     }
 }
@@ -173,7 +92,7 @@ fn copy(from: &[u8], to: &mut [u8])
 pub fn read_table(text: &[u8], table: &mut [u8]) -> ReadAnswer
     ensures { λ r. ⌜ ReadTable (now (text .entry)) (now (table .entry)) r (now (table .exit)) ⌝ }
 {
-    let mut rows = [0u8; Sizes::TABLE];
+    let mut rows = [0u16; PLACES];
     let answer = judge_text(text, &mut rows);
     match answer {
         ReadAnswer::Given(_) => {

@@ -1,23 +1,22 @@
 -- The refusal of a text: its number is 1 to 6, and its line is at least 1 and at most one more than the text has bytes (`reading-refused`).
 -- So the two numbers of the line `refused` that is printed have at most four digits, and the line says them back (`refusal-said`).
-use mathlib.Core.Bool.{Bool, true, false, cond, _&&_}
 use mathlib.Core.List.{List, [], _∷_, map, append-nil}
 use mathlib.Core.Path.{_≡_, sym, ap, _∙_}
-use Prim.Native.Nat.{ℕ, zero, suc, _+_, _^_, _<_, _≤_}
+use Prim.Native.Nat.{ℕ, zero, suc, _+_, _<_, _≤_}
 use native.Mathlib.Omega.{arith}
-use lib.Dec.{leb, ltb, lit<}
-use lib.ListN.{length, set, replicate, length-append, length-take}
-use Rattle.table_texts.specs.declared.lines.FirstLine.the-variants as first
-use Rattle.table_texts.specs.declared.lines.FirstLine.{FirstLine}
-use Rattle.table_texts.specs.declared.lines.LaterLine.the-variants.{On, End, Wrong}
-use Rattle.table_texts.specs.declared.lines.LaterLine.{LaterLine}
-use Rattle.table_texts.specs.declared.read.ReadAnswer.the-variants as answer
+use lib.Dec.{lit<}
+use lib.ListN.{length, replicate, length-append, length-take}
+use Rattle.table_texts.specs.declared.first.FirstLine.the-variants as first
+use Rattle.table_texts.specs.declared.first.FirstLine.{FirstLine}
 use Rattle.table_texts.specs.declared.sizes.Sizes.{Sizes}
 use Rattle.listings.specs.Parts.{parts, bytes}
-use Rattle.table_texts.specs.Lines.{firstLine, laterLine}
+use Rattle.table_texts.specs.First.{firstLine}
 use Rattle.listings.specs.Listing.{tabbed, line, decimal}
 use Rattle.listings.specs.Meaning.{firstNumbers}
-use Rattle.table_texts.specs.Read.{Reading, given, refused, unfinished, ended, judgedLater, laterLines, sizesJudged, judgedFirst, opened, allLines, reading}
+use Rattle.table_texts.specs.Read.{Reading, given, refused, withSizes, sizesJudged, judgedFirst, opened, allLines, reading}
+use Rattle.lines.specs.Rows as rows
+use Rattle.lines.specs.Rows.{RowsRead, tableGrammar, rowLine}
+use Rattle.lines.proofs.Refusals.{RowsRefusedIn, unfinished-in, rows-refused-in}
 use Rattle.numbers.specs.Refusals.{sizesRefusal}
 use Rattle.numbers.proofs.refusals.Judging.{sizes-most}
 use Rattle.text.specs.Print.{judged, refusedLine}
@@ -37,34 +36,11 @@ refused-widen : (a b c d : ℕ) (x : Reading) → c ≤ a → b ≤ d → Refuse
 refused-widen a b c d (given z table) h g r = tt
 refused-widen a b c d (refused number l) h g r = (r .0, (omega arith, omega arith))
 
-unfinished-in : (l : List ℕ) (k : ℕ) → RefusedIn k k (unfinished l k)
-unfolding unfinished
-unfinished-in [] k = ((omega arith, omega arith), (omega arith, omega arith))
-unfinished-in (b ∷ l) k = ((omega arith, omega arith), (omega arith, omega arith))
-
-ended-in : (z : Sizes) (k : ℕ) (table l : List ℕ) (ls : List (List ℕ)) → RefusedIn k (k + 1) (ended z k table l ls)
-unfolding ended
-ended-in z k table [] [] = tt
-ended-in z k table [] (l ∷ ls) = ((omega arith, omega arith), (omega arith, omega arith))
-ended-in z k table (b ∷ l) ls = ((omega arith, omega arith), (omega arith, omega arith))
-
--- from the line k on, with as many lines after it as stand in ls
-laterLines-in : (ls : List (List ℕ)) (z : Sizes) (k least : ℕ) (table l : List ℕ) → RefusedIn k (k + length ls) (laterLines z k least table l ls)
-unfolding laterLines
-laterLines-in [] z k least table l = refused-widen k k k (k + 0) (unfinished l k) (omega arith) (omega arith) (unfinished-in l k)
-laterLines-in (l′ ∷ ls) z k least table l =
-    judging (laterLine (z .m) l) (λ p t. laterLines-in ls z (k + 1) p t l′)
-  where
-    tested : (b : Bool) (x : Reading) → RefusedIn (k + 1) (k + 1 + length ls) x → RefusedIn k (k + suc (length ls)) (cond b x (refused 5 k))
-    tested true x ih = refused-widen (k + 1) (k + 1 + length ls) k (k + suc (length ls)) x (omega arith) (omega arith) ih
-    tested false x ih = ((omega arith, omega arith), (omega arith, omega arith))
-
-    judging : (x : LaterLine) → ((p : ℕ) (t : List ℕ) → RefusedIn (k + 1) (k + 1 + length ls) (laterLines z (k + 1) p t l′ ls))
-        → RefusedIn k (k + suc (length ls))
-        (judgedLater x z k least table (ended z k table l′ ls) (λ least table. laterLines z (k + 1) least table l′ ls))
-    judging (On p o) ih = tested (ltb p (2 ^ z .n) && leb least p) _ (ih (p + 1) (set table p o))
-    judging End ih = refused-widen k (k + 1) k (k + suc (length ls)) (ended z k table l′ ls) (omega arith) (omega arith) (ended-in z k table l′ ls)
-    judging Wrong ih = ((omega arith, omega arith), (omega arith, omega arith))
+-- the sizes with what the lines after the first give
+with-in : (a b c d : ℕ) (z : Sizes) (x : RowsRead) → c ≤ a → b ≤ d → RowsRefusedIn a b x → RefusedIn c d (withSizes z x)
+unfolding withSizes
+with-in a b c d z (rows.rows values) h g r = tt
+with-in a b c d z (rows.refused number l) h g r = (r .0, (omega arith, omega arith))
 
 -- what the first line leads to
 opened-in : (x : FirstLine) (next : Sizes → Reading) (most : ℕ) → 1 ≤ most → ((z : Sizes) → RefusedIn 2 most (next z))
@@ -78,10 +54,12 @@ opened-in (first.Table z) next most h ih = by-sizes (sizesRefusal (z .n) (z .m) 
 
 allLines-in : (l : List ℕ) (ls : List (List ℕ)) → RefusedIn 1 (length ls + 1) (allLines l ls)
 unfolding allLines
-allLines-in l [] = unfinished-in l 1
+allLines-in l [] = (unfinished-in l, (omega arith, omega arith))
 allLines-in l (l′ ∷ ls) =
     opened-in (firstLine l) _ (suc (length ls) + 1) (omega arith)
-    (λ z. refused-widen 2 (2 + length ls) 2 (suc (length ls) + 1) (laterLines z 2 0 (replicate 256 0) l′ ls) (omega arith) (omega arith) (laterLines-in ls z 2 0 (replicate 256 0) l′))
+    (λ z.
+    with-in 2 (2 + length ls) 2 (suc (length ls) + 1) z _ (omega arith) (omega arith)
+    (rows-refused-in (rowLine (tableGrammar (z .n) (z .m))) (z .n) ls 2 0 (replicate 256 0) l′))
 
 reading-in : (s : List ℕ) → RefusedIn 1 (length s + 1) (reading s)
 unfolding reading

@@ -6,7 +6,7 @@ use borrow.Author.Needs.{needs}
 use lib.ListN.{length}
 use lib.Seq.{length-take-le}
 use Rattle.listings.specs.inner.Stops.{stop}
-use Rattle.table_texts.specs.Read.{standsFor}
+use Rattle.table_texts.specs.Read.{refused, standsFor}
 use Rattle.table_texts.proofs.read.Accepted.{first-sized}
 use Rattle.listings.proofs.Parts.{stop-le}
 use Rattle.table_texts.proofs.read.Steps.{text-unfinished, text-judged}
@@ -41,7 +41,7 @@ unfinished-requires c κs = search needs
 
 returns : tie.Need-returns
 unfolding standsFor
-returns c = c .unfinished .ensures 1 ∙ sym (text-unfinished _ _ (first-stop (c .before .before .before)) (omega arith))
+returns c = ap (λ (x : ℕ). refused x 1) (c .unfinished .ensures) ∙ sym (text-unfinished _ _ (first-stop (c .before .before .before)) (omega arith))
 
 slice-aggregate-judge-first : tie.Need-slice-aggregate-judge-first
 slice-aggregate-judge-first c = sym (length-take-le _ _ (omega (arith, before-end (c .before))))
@@ -57,8 +57,8 @@ next-line-requires c κs =
     let test = c .before .before .before .before .before in
     omega (arith, before-end test, test .before .before .new .ensures .1, test .before .seek .ensures .1)
 
-judge-lines-requires : tie.Need-judge-lines-requires
-judge-lines-requires c κs =
+judge-points-requires : tie.Need-judge-points-requires
+judge-points-requires c κs =
     let limits = first-sized _ _ (sym (c .before .before .before .before .before .judge-first .ensures) ∙ c .before .before .before .sizes .given .1) in
     let at = c .before .next-line .ensures .0 in
     let line = second-line (c .before) in
@@ -69,7 +69,7 @@ enum-known-number c = search needs
 
 returns-2 : tie.Need-returns-2
 returns-2 c =
-    c .judge-lines .ensures
+    c .judge-points .ensures
     ∙ rw (c .before .before .next-line .ensures .0, second-line (c .before .before), c .before .before .before .before .before .before .before .before .before .before .before .before .pre)
     (sym
     (text-judged _ _ (first-stop (c .before .before .before .before .before .before .before .before .before)) (before-end (c .before .before .before .before .before .before .before .before))
@@ -95,7 +95,7 @@ judge-text-spec =
     judge-first-requires
     enum-known-sizes
     next-line-requires
-    judge-lines-requires
+    judge-points-requires
     enum-known-number
     returns-2
     returns-3)

@@ -1,8 +1,10 @@
 -- `read_table` meets its contract. An accepted text gives 256 rows, which are copied; a refusal leaves the lent table as it was.
-use mathlib.Core.Path.{_≡_, sym, _∙_}
+use mathlib.Core.Path.{_≡_, sym}
+use native.Mathlib.Nat.{lt-of-lt-of-le}
 use borrow.Author.Needs.{needs}
 use borrow.Author.Tests.{eq-eqb, ne-eqb}
 use lib.ListN.{length}
+use Rattle.numbers.proofs.Shifts.{points-le}
 use Rattle.table_texts.specs.Read.{given, reading, standsFor, lent, tableAfter}
 use Rattle.table_texts.proofs.read.Accepted.{reading-accepted}
 use Rattle.table_texts.proofs.read.read_table.Statement.{statement}
@@ -26,11 +28,10 @@ returns c =
     let other = ne-eqb (length (c .before .before .before .before .before .before .before .args .table .now)) 256 (c .if1 .taken) in
     record { result = rw (rows-read (c .before), other); table = rw (rows-read (c .before), other) }
 
-slice-aggregate-copy : tie.Need-slice-aggregate-copy
-slice-aggregate-copy c = sym (reading-accepted _ _ _ (rows-read (c .before .before)) .table .long)
-
 copy-requires : tie.Need-copy-requires
-copy-requires c κs = reading-accepted _ _ _ (rows-read (c .before .before .before)) .table .long ∙ sym (c .before .before .if1 .left)
+copy-requires c κs =
+    let accepted = reading-accepted _ _ _ (rows-read (c .before .before .before)) in
+    (accepted .table .long, c .before .before .if1 .left, λ p. lt-of-lt-of-le (accepted .table .small p) (points-le _ (accepted .sized .outputs .1)))
 
 enum-told-2 : tie.Need-enum-told-2
 enum-told-2 c = search needs
@@ -63,7 +64,6 @@ read-table-spec =
     judge-text-requires
     enum-told
     returns
-    slice-aggregate-copy
     copy-requires
     enum-told-2
     same-length

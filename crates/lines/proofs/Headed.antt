@@ -1,0 +1,50 @@
+-- A line from its fields: a line that passes for a word and so many fields is the word and these fields, each after a tab (`headed-read`).
+use mathlib.Core.Bool.{true}
+use mathlib.Core.List.{List, [], _∷_, _++_}
+use mathlib.Core.Path.{_≡_, refl, sym, ap, ap₂, _∙_}
+use Prim.Native.Nat.{ℕ, suc}
+use native.Mathlib.Omega.{arith}
+use borrow.Author.Tests.{eqb-true}
+use lib.Dec.{eqb}
+use lib.ListN.{length, getD}
+use Rattle.numbers.proofs.Tests.{both-left, both-right}
+use Rattle.listings.specs.Parts.{parts, same, field, fields}
+use Rattle.listings.specs.Listing.{tabbed}
+use Rattle.listings.proofs.Parts.{separated, parts-joined}
+use Rattle.listings.proofs.Words.{same-equal}
+use Rattle.lines.specs.Fields.{headed}
+
+tabbed-separated : (fs : List (List ℕ)) → tabbed fs ≡ separated 9 fs
+unfolding tabbed separated
+tabbed-separated [] = refl
+tabbed-separated (f ∷ fs) = ap (λ (l : List ℕ). 9 ∷ f ++ l) (tabbed-separated fs)
+
+fields-joined : (l : List ℕ) → l ≡ parts 9 l .first ++ tabbed (parts 9 l .others)
+fields-joined l = sym (ap (λ (r : List ℕ). parts 9 l .first ++ r) (tabbed-separated (parts 9 l .others)) ∙ parts-joined 9 l)
+
+-- ---- the fields of a line, by their number
+
+list-two : (fs : List (List ℕ)) → length fs ≡ 2 → fs ≡ getD fs 0 [] ∷ getD fs 1 [] ∷ []
+list-two [] e = absurd (omega arith)
+list-two (a ∷ []) e = absurd (omega arith)
+list-two (a ∷ b ∷ []) e = refl
+list-two (a ∷ b ∷ c ∷ fs) e = absurd (omega arith)
+
+pub list-three : (fs : List (List ℕ)) → length fs ≡ 3 → fs ≡ getD fs 0 [] ∷ getD fs 1 [] ∷ getD fs 2 [] ∷ []
+list-three [] e = absurd (omega arith)
+list-three (a ∷ fs) e = ap (λ (l : List (List ℕ)). a ∷ l) (list-two fs (omega arith))
+
+pub headed-read : (count : ℕ) (word l : List ℕ) → headed (suc count) word l ≡ true
+    → (l ≡ word ++ tabbed (parts 9 l .others)) × (length (parts 9 l .others) ≡ count)
+unfolding headed fields
+headed-read count word l e =
+    let many : suc (length (parts 9 l .others)) ≡ suc count = eqb-true _ (suc count) (both-left _ (same (parts 9 l .first) word) e) in
+    let first : parts 9 l .first ≡ word = same-equal (parts 9 l .first) word (both-right (eqb (suc (length (parts 9 l .others))) (suc count)) _ e) in
+    (fields-joined l ∙ ap (λ (w : List ℕ). w ++ tabbed (parts 9 l .others)) first, omega arith)
+
+-- a line of a word and two fields
+pub two-fields : (word l a b : List ℕ) → headed 3 word l ≡ true → field 1 l ≡ a → field 2 l ≡ b → l ≡ word ++ tabbed (a ∷ b ∷ [])
+unfolding fields
+two-fields word l a b h ea eb =
+    let shape = headed-read 2 word l h in
+    shape .0 ∙ ap (λ (fs : List (List ℕ)). word ++ tabbed fs) (list-two (parts 9 l .others) (shape .1) ∙ ap₂ (λ (f g : List ℕ). f ∷ g ∷ []) ea eb)

@@ -1,0 +1,217 @@
+-- The two kinds of line: the rows of a table text (`table-kind`) and those of a listing (`listing-kind`). A line that says a row is the line that
+-- is written for it.
+use mathlib.Core.Bool.{Bool, true, false, cond}
+use mathlib.Core.List.{List, [], _∷_, _++_}
+use mathlib.Core.Path.{_≡_, refl, sym, ap, _∙_}
+use Prim.Native.Nat.{ℕ, _+_, _*_, _/_, _%_, _^_, _≤_, _<_}
+use native.Mathlib.Omega.{arith}
+use lib.Bits.{bitAnd, and-comm}
+use lib.Dec.{T, lit<, lit≤}
+use Rattle.numbers.specs.Bits.{inside}
+use Rattle.numbers.proofs.Ands.{inside-and}
+use Rattle.numbers.proofs.Shifts.{points-le}
+use Rattle.listings.specs.Parts.{bytes, same, field, fields}
+use Rattle.listings.specs.Listing.{tabbed, decimal, cube, outputBytes}
+use Rattle.listings.proofs.Joined.{Plain, parts-fields}
+use Rattle.listings.proofs.Meaning.{plain-decimal, plain-outputs, plain-cube, plain-term}
+use Rattle.listings.proofs.Words.{same-equal}
+use Rattle.lines.specs.declared.values.Number.{Number}
+use Rattle.lines.specs.declared.values.Number.the-variants as numbers
+use Rattle.lines.specs.declared.values.Cube.{Cube}
+use Rattle.lines.specs.declared.values.Cube.the-variants as cubes
+use Rattle.lines.specs.declared.rows.Grammar.{Grammar}
+use Rattle.lines.specs.declared.rows.Kind.{Kind}
+use Rattle.lines.specs.declared.rows.Kind.the-variants.{Table, Listing}
+use Rattle.lines.specs.declared.rows.RowLine.{RowLine}
+use Rattle.lines.specs.declared.rows.RowLine.the-variants.{Row, End, Wrong}
+use Rattle.lines.specs.Fields.{andThen, headed, number, outputs}
+use Rattle.lines.specs.Cubes.{cubeSaid}
+use Rattle.lines.specs.Rows.{tableGrammar, listingGrammar, onRow, cubeThen, termRow, ofKind, rowLine}
+use Rattle.lines.proofs.Numbers.{outputs-lt}
+use Rattle.lines.proofs.Written.{number-decimal, outputs-written}
+use Rattle.lines.proofs.FieldsRead.{number-read, outputs-read}
+use Rattle.lines.proofs.Cubes.{cube-written, cube-said}
+use Rattle.lines.proofs.Headed.{two-fields}
+use Rattle.lines.proofs.LineKinds.{LineKind}
+
+-- ---- what a line is not
+
+wrong-row : {p v : ℕ} → Wrong ≡ Row p v → ⊥
+wrong-row e = let z : _≡_ {A = ℕ} 0 1 = cc in omega arith
+
+end-row : {p v : ℕ} → End ≡ Row p v → ⊥
+end-row e = let z : _≡_ {A = ℕ} 0 1 = cc in omega arith
+
+wrong-end : Wrong ≡ End → ⊥
+wrong-end e = let z : _≡_ {A = ℕ} 0 1 = cc in omega arith
+
+-- a row that is said under a test: the test passes
+under-test : (t : Bool) (x : RowLine) (p v : ℕ) → cond t x Wrong ≡ Row p v → (t ≡ true) × (x ≡ Row p v)
+under-test true x p v e = (refl, e)
+under-test false x p v e = absurd (wrong-row e)
+
+never-end : (t : Bool) (x : RowLine) → (x ≡ End → ⊥) → cond t x Wrong ≡ End → ⊥
+never-end true x h e = h e
+never-end false x h e = wrong-end e
+
+-- a line that says a row is not `end`
+row-line : (g : Grammar) (l : List ℕ) (p v : ℕ) → rowLine g l ≡ Row p v → ofKind (g .kind) (onRow (g .m) l) (termRow (g .n) (g .m) l) ≡ Row p v
+unfolding rowLine
+row-line g l p v = go (same l (bytes "end")) where
+  go : (t : Bool) → cond t End (ofKind (g .kind) (onRow (g .m) l) (termRow (g .n) (g .m) l)) ≡ Row p v
+      → ofKind (g .kind) (onRow (g .m) l) (termRow (g .n) (g .m) l) ≡ Row p v
+  go true e = absurd (end-row e)
+  go false e = e
+
+-- ---- a row of a table text
+
+-- what holds of the outputs o at the point p
+pub record PointValue (m p o : ℕ) : Type 0 where
+  pub below : o < 2 ^ m
+  pub some : o ≡ 0 → ⊥
+
+plain-on : Plain (bytes "on")
+unfolding bytes
+plain-on = (lit< tt, (lit< tt, tt))
+
+on-said : (n m p o : ℕ) → p < 1000 → o < 2 ^ m → (o ≡ 0 → ⊥) → rowLine (tableGrammar n m) (bytes "on" ++ tabbed (decimal p ∷ outputBytes m o ∷ [])) ≡ Row p o
+unfolding rowLine onRow headed fields same bytes
+on-said n m p o few small some =
+    rw (
+      parts-fields (bytes "on") (decimal p ∷ outputBytes m o ∷ []) plain-on (plain-decimal p, (plain-outputs m o, tt)),
+      number-decimal 3 p (lit≤ tt) (lit≤ tt) few,
+      outputs-written m o small some,
+    )
+
+on-fields : (x y : Number) (p o : ℕ) → andThen x Wrong (λ p. andThen y Wrong (λ o. Row p o)) ≡ Row p o → (x ≡ numbers.Is p) × (y ≡ numbers.Is o)
+on-fields (numbers.Is a) (numbers.Is b) p o e = (cc, cc)
+on-fields (numbers.Is a) numbers.Wrong p o e = absurd (wrong-row e)
+on-fields numbers.Wrong y p o e = absurd (wrong-row e)
+
+on-never-end : (x y : Number) → andThen x Wrong (λ p. andThen y Wrong (λ o. Row p o)) ≡ End → ⊥
+on-never-end (numbers.Is a) (numbers.Is b) e = end-row (sym e)
+on-never-end (numbers.Is a) numbers.Wrong e = wrong-end e
+on-never-end numbers.Wrong y e = wrong-end e
+
+on-read : (m : ℕ) (l : List ℕ) (p o : ℕ) → onRow m l ≡ Row p o → (l ≡ bytes "on" ++ tabbed (decimal p ∷ outputBytes m o ∷ [])) × PointValue m p o
+unfolding onRow
+on-read m l p o e =
+    let passes = under-test (headed 3 (bytes "on") l) _ p o e in
+    let said = on-fields (number 3 (field 1 l)) (outputs m (field 2 l)) p o (passes .1) in
+    let found = outputs-read m (field 2 l) o (said .1) in (
+      two-fields (bytes "on") l (decimal p) (outputBytes m o) (passes .0) (number-read 3 (field 1 l) p (lit≤ tt) (said .0) .0) (found .0),
+      record { below = outputs-lt m (field 2 l) o (said .1); some = found .1 },
+    )
+
+-- ---- a row of a listing
+
+-- what holds of the value v at the term t: its outputs are below 2 ^ m and not all 0, and its complemented inputs are among the term's
+pub record TermValue (m t v : ℕ) : Type 0 where
+  pub outputs : v % 256 < 2 ^ m
+  pub some : v % 256 ≡ 0 → ⊥
+  pub within : T (inside (v / 256) t)
+  pub small : v < 65536
+
+term-said : (n m t v : ℕ) → t < 2 ^ n → TermValue m t v
+    → rowLine (listingGrammar n m) (bytes "term" ++ tabbed (cube n t (v / 256) ∷ outputBytes m (v % 256) ∷ [])) ≡ Row t v
+unfolding rowLine termRow headed fields same bytes
+term-said n m t v h g =
+    let shown : bitAnd t (v / 256) ≡ v / 256 = and-comm t (v / 256) ∙ inside-and (v / 256) t (g .within) in
+    let value : bitAnd t (v / 256) * 256 + v % 256 ≡ v = omega arith in
+    rw (
+      parts-fields (bytes "term") (cube n t (v / 256) ∷ outputBytes m (v % 256) ∷ []) plain-term (plain-cube n t (v / 256), (plain-outputs m (v % 256), tt)),
+      cube-written n t (v / 256) h,
+      outputs-written m (v % 256) (g .outputs) (g .some),
+      value,
+    )
+
+-- what the two fields of a row say
+record TermFields (x : Cube) (y : Number) (t v : ℕ) : Type 0 where
+  complemented : ℕ
+  outputs : ℕ
+  cube-field : x ≡ cubes.Is t complemented
+  outputs-field : y ≡ numbers.Is outputs
+  value : complemented * 256 + outputs ≡ v
+
+term-fields : (x : Cube) (y : Number) (t v : ℕ) → cubeThen x Wrong (λ t c. andThen y Wrong (λ o. Row t (c * 256 + o))) ≡ Row t v → TermFields x y t v
+term-fields (cubes.Is a c) (numbers.Is o) t v e =
+    let term : a ≡ t = cc in
+    record { complemented = c; outputs = o; cube-field = ap (λ (a : ℕ). cubes.Is a c) term; outputs-field = refl; value = cc }
+term-fields (cubes.Is a c) numbers.Wrong t v e = absurd (wrong-row e)
+term-fields cubes.Wrong y t v e = absurd (wrong-row e)
+
+term-never-end : (x : Cube) (y : Number) → cubeThen x Wrong (λ t c. andThen y Wrong (λ o. Row t (c * 256 + o))) ≡ End → ⊥
+term-never-end (cubes.Is a c) (numbers.Is o) e = end-row (sym e)
+term-never-end (cubes.Is a c) numbers.Wrong e = wrong-end e
+term-never-end cubes.Wrong y e = wrong-end e
+
+term-read : (n m : ℕ) (l : List ℕ) (t v : ℕ) → n ≤ 8 → m ≤ 8 → termRow n m l ≡ Row t v
+    → (l ≡ bytes "term" ++ tabbed (cube n t (v / 256) ∷ outputBytes m (v % 256) ∷ [])) × TermValue m t v
+unfolding termRow
+term-read n m l t v hn hm e =
+    let passes = under-test (headed 3 (bytes "term") l) _ t v e in
+    let said = term-fields (cubeSaid n (field 1 l)) (outputs m (field 2 l)) t v (passes .1) in
+    let shown = cube-said n (field 1 l) t (said .complemented) (said .cube-field) in
+    let found = outputs-read m (field 2 l) (said .outputs) (said .outputs-field) in
+    let below : said .outputs < 2 ^ m = outputs-lt m (field 2 l) (said .outputs) (said .outputs-field) in
+    let low : said .outputs ≡ v % 256 = omega (arith, points-le m hm, said .value) in
+    let high : said .complemented ≡ v / 256 = omega (arith, points-le m hm, said .value) in (
+      two-fields (bytes "term") l (cube n t (v / 256)) (outputBytes m (v % 256)) (passes .0)
+          (shown .characters ∙ ap (cube n t) high)
+          (found .0 ∙ ap (outputBytes m) low),
+      record {
+        outputs = rw (← low) below;
+        some = λ z. found .1 (low ∙ z);
+        within = rw (← high) (shown .within);
+        small = omega (arith, points-le n hn, points-le m hm, shown .complemented, said .value);
+      },
+    )
+
+-- ---- the two kinds
+
+end-said : (g : Grammar) → rowLine g (bytes "end") ≡ End
+unfolding rowLine same bytes
+end-said g = refl
+
+end-read : (g : Grammar) (l : List ℕ) → rowLine g l ≡ End → l ≡ bytes "end"
+unfolding rowLine onRow termRow
+end-read g l = go (same l (bytes "end")) (g .kind) refl where
+  go : (t : Bool) (k : Kind) → same l (bytes "end") ≡ t → cond t End (ofKind k (onRow (g .m) l) (termRow (g .n) (g .m) l)) ≡ End → l ≡ bytes "end"
+  go true k h e = same-equal l (bytes "end") h
+  go false Table h e = absurd (never-end (headed 3 (bytes "on") l) _ (on-never-end (number 3 (field 1 l)) (outputs (g .m) (field 2 l))) e)
+  go false Listing h e = absurd (never-end (headed 3 (bytes "term") l) _ (term-never-end (cubeSaid (g .n) (field 1 l)) (outputs (g .m) (field 2 l))) e)
+
+-- "`on`, point, outputs"
+pub table-kind : (n m : ℕ) → n ≤ 8
+    → LineKind n (rowLine (tableGrammar n m)) (bytes "on") (λ p o. decimal p ∷ outputBytes m o ∷ []) (PointValue m)
+table-kind n m hn =
+    record {
+      plain = plain-on;
+      plain-fields = λ p o. (plain-decimal p, (plain-outputs m o, tt));
+      some = λ p o good. good .some;
+      row-said = λ p o h good. on-said n m p o (omega (arith, points-le n hn)) (good .below) (good .some);
+      row-read = λ l p o e. on-read m l p o (row-line (tableGrammar n m) l p o e);
+      end-said = end-said (tableGrammar n m);
+      end-read = end-read (tableGrammar n m);
+    }
+
+-- "`term`, cube, outputs"
+pub listing-kind : (n m : ℕ) → n ≤ 8 → m ≤ 8
+    → LineKind n (rowLine (listingGrammar n m)) (bytes "term") (λ t v. cube n t (v / 256) ∷ outputBytes m (v % 256) ∷ []) (TermValue m)
+listing-kind n m hn hm =
+    record {
+      plain = plain-term;
+      plain-fields = λ t v. (plain-cube n t (v / 256), (plain-outputs m (v % 256), tt));
+      some = λ t v good e. good .some (rw e);
+      row-said = λ t v h good. term-said n m t v h good;
+      row-read = λ l t v e. term-read n m l t v hn hm (row-line (listingGrammar n m) l t v e);
+      end-said = end-said (listingGrammar n m);
+      end-read = end-read (listingGrammar n m);
+    }
+
+-- a value is one of 16 bits
+pub row-small : (g : Grammar) (l : List ℕ) (p v : ℕ) → g .n ≤ 8 → g .m ≤ 8 → rowLine g l ≡ Row p v → v < 65536
+row-small g l p v hn hm e = go (g .kind) (row-line g l p v e) where
+  go : (k : Kind) → ofKind k (onRow (g .m) l) (termRow (g .n) (g .m) l) ≡ Row p v → v < 65536
+  go Table e = omega (arith, points-le (g .m) hm, on-read (g .m) l p v e .1 .below)
+  go Listing e = term-read (g .n) (g .m) l p v hn hm e .1 .small

@@ -1,0 +1,4 @@
+pub mod Fields
+pub mod Cubes
+pub mod Rows
+pub mod inner

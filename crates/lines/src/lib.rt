@@ -1,0 +1,8 @@
+// Lines after the first: what the lines of a table text and of a listing have alike. The main property: `judge_rows` gives the values that the
+// lines say, or the first refusal (`laterLines` in specs/Rows.antt); and lines are taken exactly where they are the lines written for values
+// (proofs/LineKinds, for both kinds of line).
+pub mod cursor;
+pub mod fields;
+pub mod judge;
+pub mod rows;
+pub mod values;

@@ -1,0 +1,49 @@
+-- `table_line` meets its contract: a number that is not read makes the line wrong.
+use borrow.Author.Needs.{needs}
+use Rattle.table_texts.proofs.first.table_line.Statement.{statement}
+use Rattle.table_texts.proofs.first.table_line.Tie as tie
+
+enum-known-n : tie.Need-enum-known-n
+enum-known-n c = search needs
+
+enum-told : tie.Need-enum-told
+enum-told c = search needs
+
+returns : tie.Need-returns
+returns c = search needs
+
+enum-known-m : tie.Need-enum-known-m
+enum-known-m c = search needs
+
+enum-told-2 : tie.Need-enum-told-2
+enum-told-2 c = search needs
+
+returns-2 : tie.Need-returns-2
+returns-2 c = search needs
+
+enum-known-k : tie.Need-enum-known-k
+enum-known-k c = search needs
+
+enum-told-3 : tie.Need-enum-told-3
+enum-told-3 c = search needs
+
+returns-3 : tie.Need-returns-3
+returns-3 c = search needs
+
+returns-4 : tie.Need-returns-4
+returns-4 c = cc
+
+pub table-line-spec : {M : Type 1} → statement M
+table-line-spec =
+    tie.close
+    (tie.spec
+    enum-known-n
+    enum-told
+    returns
+    enum-known-m
+    enum-told-2
+    returns-2
+    enum-known-k
+    enum-told-3
+    returns-3
+    returns-4)
