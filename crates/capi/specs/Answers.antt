@@ -13,6 +13,8 @@ use Rattle.search.specs.declared.calls.Minimised.the-variants as minimised
 use Rattle.table_texts.specs.Read as reading
 use Rattle.text.specs.declared.compile.Compiled.{Compiled}
 use Rattle.text.specs.declared.compile.Compiled.the-variants as compiled
+use Rattle.fitter.specs.declared.check.Checked.{Checked}
+use Rattle.fitter.specs.declared.check.Checked.the-variants as checked
 
 -- the answer that "Why a call declines" decides for n, m, w, the given bytes and the length of the buffer to fill
 abbrev pub decided : ℕ → ℕ → ℕ → List ℕ → ℕ → Transformed
@@ -41,3 +43,10 @@ readNumbers (reading.refused number line) = number ∷ line ∷ 0 ∷ 0 ∷ 0 �
 unfoldable pub listingNumbers : Compiled → List ℕ
 listingNumbers (compiled.Written length) = 0 ∷ 0 ∷ length ∷ []
 listingNumbers (compiled.Refused number line) = number ∷ line ∷ 0 ∷ []
+
+-- the outcome, after the number and the line: 1 same, 2 differs, 3 not of the class, and 0 under a refusal; then the point that differs, or 0
+unfoldable pub checkNumbers : Checked → List ℕ
+checkNumbers checked.Same = 0 ∷ 0 ∷ 1 ∷ 0 ∷ []
+checkNumbers (checked.Differs point) = 0 ∷ 0 ∷ 2 ∷ point ∷ []
+checkNumbers checked.NotOfClass = 0 ∷ 0 ∷ 3 ∷ 0 ∷ []
+checkNumbers (checked.Refused number line) = number ∷ line ∷ 0 ∷ 0 ∷ []

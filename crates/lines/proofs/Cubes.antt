@@ -136,7 +136,7 @@ complement-below (b ∷ l) h =
     let c = cube-first b l h in
     digit-below (length l) (complementedIn b) (complementShown l) (c .0 .complemented) (complement-below l (c .1))
 
-cube-read : (l : List ℕ) → cubeCharacters l ≡ true → cube (length l) (termShown l) (complementShown l) ≡ l
+pub cube-read : (l : List ℕ) → cubeCharacters l ≡ true → cube (length l) (termShown l) (complementShown l) ≡ l
 unfolding cube descending termShown complementShown
 cube-read [] h = refl
 cube-read (b ∷ l) h =
@@ -146,7 +146,7 @@ cube-read (b ∷ l) h =
     (head-bit (length l) (complementedIn b) (complementShown l) (c .0 .complemented) (complement-below l (c .1))) ∙ c .0 .byte)
     (cube-low (length l) (presentIn b) (termShown l) (complementedIn b) (complementShown l) ∙ cube-read l (c .1))
 
-complement-within : (l : List ℕ) → cubeCharacters l ≡ true → T (inside (complementShown l) (termShown l))
+pub complement-within : (l : List ℕ) → cubeCharacters l ≡ true → T (inside (complementShown l) (termShown l))
 complement-within l h =
     inside-of (complementShown l) (termShown l)
     (and-comm (complementShown l) (termShown l) ∙ sym (complement-cube (length l) (termShown l) (complementShown l) (term-below l h)) ∙ ap complementShown (cube-read l h))

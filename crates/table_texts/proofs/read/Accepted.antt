@@ -1,7 +1,7 @@
 -- What an accepted text gives: sizes within document 01's limits, and a table of 256 bytes, each below 2 ^ m, zero from 2 ^ n on.
 -- The main property is `reading-accepted`.
 use mathlib.Core.List.{List, [], _∷_}
-use mathlib.Core.Path.{_≡_, refl, ap, subst, _∙_}
+use mathlib.Core.Path.{_≡_, refl, sym, ap, subst, _∙_}
 use Prim.Native.Nat.{ℕ, zero, suc}
 use native.Mathlib.Omega.{arith}
 use lib.ListN.{length, replicate}
@@ -74,3 +74,13 @@ lent-whole (refused number line) = refl
 pub read-whole : (text before after : List ℕ) (r : ReadAnswer) → ReadTable text before r after → length before ≡ 256
     → standsFor r after ≡ reading text
 read-whole text before after r done long = done .result ∙ rw long (lent-whole (reading text))
+
+-- ---- by the answer
+
+pub reads-given : (r : ReadAnswer) (t : List ℕ) (z : Sizes) (x : Reading) → r ≡ answer.Given z → standsFor r t ≡ x → x ≡ given z t
+unfolding standsFor
+reads-given r t z x e s = sym s ∙ ap (λ (y : ReadAnswer). standsFor y t) e
+
+pub reads-refused : (r : ReadAnswer) (t : List ℕ) (number line : ℕ) (x : Reading) → r ≡ answer.Refused number line → standsFor r t ≡ x → x ≡ refused number line
+unfolding standsFor
+reads-refused r t number line x e s = sym s ∙ ap (λ (y : ReadAnswer). standsFor y t) e

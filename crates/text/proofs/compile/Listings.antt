@@ -20,7 +20,7 @@ use Rattle.table_texts.specs.Accepted.{Accepted}
 use Rattle.table_texts.specs.Read.{Reading, given, refused, reading, standsFor}
 use Rattle.text.specs.Compile.{answerListing, compiled, bufferAfter, Compile}
 use Rattle.listings.specs.Meaning.{IsListing}
-use Rattle.table_texts.proofs.read.Accepted.{reading-accepted}
+use Rattle.table_texts.proofs.read.Accepted.{reading-accepted, reads-refused}
 use Rattle.listings.proofs.ListedAnswers.{answer-listed}
 
 -- ---- the listing of the answer
@@ -60,14 +60,6 @@ compile-meaning text before after r er ea =
     }
 
 -- by the reading call's answer
-
-pub reads-given : (r : ReadAnswer) (t : List ℕ) (z : Sizes) (x : Reading) → r ≡ answer.Given z → standsFor r t ≡ x → x ≡ given z t
-unfolding standsFor
-reads-given r t z x e s = sym s ∙ ap (λ (y : ReadAnswer). standsFor y t) e
-
-reads-refused : (r : ReadAnswer) (t : List ℕ) (number line : ℕ) (x : Reading) → r ≡ answer.Refused number line → standsFor r t ≡ x → x ≡ refused number line
-unfolding standsFor
-reads-refused r t number line x e s = sym s ∙ ap (λ (y : ReadAnswer). standsFor y t) e
 
 pub compile-given : (text table before after : List ℕ) (z : Sizes) (r : Compiled) → reading text ≡ given z table
     → r ≡ compiled (given z table) (length before) → after ≡ bufferAfter (given z table) before → Compile text before after r

@@ -2,8 +2,8 @@
 use borrow.Author.Needs.{needs}
 use mathlib.Core.Path.{_≡_, refl}
 use Rattle.table_texts.specs.Read.{reading, standsFor}
-use Rattle.table_texts.proofs.read.Accepted.{reading-accepted, read-whole}
-use Rattle.text.proofs.compile.Listings.{reads-given, compile-given, compile-refused}
+use Rattle.table_texts.proofs.read.Accepted.{reading-accepted, read-whole, reads-given}
+use Rattle.text.proofs.compile.Listings.{compile-given, compile-refused}
 use Rattle.text.proofs.compile.compile.Statement.{statement}
 use Rattle.text.proofs.compile.compile.Tie as tie
 

@@ -1,0 +1,108 @@
+-- The answer on the record that was read is the answer on the listing (`record-judged`): the record's bytes are those of the rows.
+use mathlib.Core.Bool.{Bool, true, false, cond, _&&_}
+use mathlib.Core.List.{List}
+use mathlib.Core.Path.{_≡_, refl, sym, ap, _∙_}
+use Prim.Native.Nat.{ℕ, _-_, _/_, _%_, _^_, _≤_, _<_}
+use native.Mathlib.Omega.{arith}
+use borrow.Author.Tests.{ltb-true, lt-ltb}
+use lib.Count.{onesIn}
+use lib.Dec.{ltb}
+use lib.Pow.{pow-mono}
+use Rattle.numbers.specs.Bytes.{at, tabulate}
+use Rattle.numbers.specs.Tests.{every}
+use Rattle.numbers.proofs.Shifts.{points-le}
+use Rattle.numbers.proofs.Tables.{at-whole}
+use Rattle.numbers.proofs.Tests.{both-left, both-right}
+use Rattle.algebra.specs.Terms.{value}
+use Rattle.expansions.specs.Answers.{validPair}
+use Rattle.expansions.specs.Least.{Best, nothing, best}
+use Rattle.membership.specs.Class.{legalPair, showsBack, shownPolarity, ofClass}
+use Rattle.membership.proofs.Shown.{shown-past}
+use Rattle.table_texts.specs.declared.sizes.Sizes.{Sizes}
+use Rattle.listing_texts.specs.declared.form.Form.{Form}
+use Rattle.listing_texts.specs.declared.read.ListingAnswer.{ListingAnswer}
+use Rattle.listing_texts.specs.declared.read.ListingAnswer.the-variants as answer
+use Rattle.listing_texts.specs.Rows.{coefficientIn, complementedIn, shownBlocks}
+use Rattle.listing_texts.specs.Read.{ListingReading, shown, refused, listingReading}
+use Rattle.listing_texts.specs.Record.{shownExpansion, shownRead, handedUp}
+use Rattle.listing_texts.proofs.Exactness.{listing-read}
+use Rattle.fitter.specs.declared.check.Checked.{Checked}
+use Rattle.fitter.specs.declared.check.Checked.the-variants.{NotOfClass, Refused}
+use Rattle.fitter.specs.declared.values.Difference.the-variants.{At, Nowhere}
+use Rattle.fitter.specs.Differences.{firstDifference}
+use Rattle.fitter.specs.Check.{compared, judged}
+use Rattle.fitter.specs.inner.Differences.{differenceOf}
+use Rattle.fitter.specs.inner.Judging.{judgedRecord}
+
+-- ---- a pair that passes is of n inputs
+
+pub legal-mixed : (n k M i : ℕ) → legalPair n k M i ≡ true → M < 2 ^ n
+unfolding legalPair
+legal-mixed n k M i h = ltb-true M (2 ^ n) (both-left (ltb M (2 ^ n)) _ h)
+
+pub legal-fixed : (n k M i : ℕ) → legalPair n k M i ≡ true → i < 2 ^ n
+unfolding legalPair
+legal-fixed n k M i h = ltb-true i (2 ^ n) (both-left (ltb i (2 ^ n)) (validPair n k M i) (both-right (ltb M (2 ^ n)) _ h))
+
+-- ---- a search for a difference
+
+pub found-at : (b : Best) (p : ℕ) → differenceOf b ≡ At p → b ≡ best p
+unfolding differenceOf
+found-at nothing p e = let z : _≡_ {A = ℕ} 0 1 = cc in absurd (omega arith)
+found-at (best q) p e = let same : q ≡ p = cc in ap best same
+
+pub found-nowhere : (b : Best) → differenceOf b ≡ Nowhere → b ≡ nothing
+unfolding differenceOf
+found-nowhere nothing e = refl
+found-nowhere (best q) e = let z : _≡_ {A = ℕ} 0 1 = cc in absurd (omega arith)
+
+-- ---- the record's bytes
+
+module _ (z : Sizes) (table s : List ℕ) (f : Form) (t : List ℕ) (read : listingReading z s ≡ shown f t) where
+  few : 2 ^ z .n ≤ 256
+  few = points-le (z .n) (listing-read z s f t read .sized .inputs .1)
+
+  none-past : (u : ℕ) → 256 ≤ u → at t u ≡ 0
+  none-past u h = listing-read z s f t read .rows .rest u (omega (arith, few))
+
+  complements-whole : at (tabulate 256 (complementedIn t)) ≡ complementedIn t
+  complements-whole = at-whole 256 (complementedIn t) (λ u h. ap (λ (x : ℕ). x / 256) (none-past u h))
+
+  coefficients-whole : at (tabulate 256 (coefficientIn t)) ≡ coefficientIn t
+  coefficients-whole = at-whole 256 (coefficientIn t) (λ u h. ap (λ (x : ℕ). x % 256) (none-past u h))
+
+  blocks-whole : f .mixed < 2 ^ z .n → at (shownBlocks (z .n) (f .mixed) (complementedIn t)) ≡ shownPolarity (z .n) (f .mixed) (complementedIn t)
+  unfolding shownBlocks
+  blocks-whole h =
+      let inputs = listing-read z s f t read .sized .inputs .1 in
+      let size : 2 ^ (z .n - onesIn (z .n) (f .mixed)) ≤ 256 = pow-mono {j = 8} (omega arith) in
+      rw (lt-ltb (f .mixed) (2 ^ z .n) h)
+      (at-whole 256 (shownPolarity (z .n) (f .mixed) (complementedIn t))
+      (λ j l. shown-past (z .n) (onesIn (z .n) (f .mixed)) (f .mixed) (complementedIn t) j refl (omega arith)))
+
+  pub record-shown : judgedRecord z table (shownRead (z .n) f t) ≡ judged z table (shown f t)
+  unfolding judgedRecord judged shownRead shownExpansion ofClass
+  record-shown = go (legalPair (z .n) (z .k) (f .mixed) (f .fixed)) refl where
+    go : (b : Bool) → legalPair (z .n) (z .k) (f .mixed) (f .fixed) ≡ b
+        → cond
+        (b && every (2 ^ z .n) (showsBack (z .n) (f .mixed) (f .fixed) (at (shownBlocks (z .n) (f .mixed) (complementedIn t))) (at (tabulate 256 (complementedIn t))) (at (tabulate 256 (coefficientIn t)))))
+        (compared (firstDifference (z .n) (value (z .n) (at (tabulate 256 (complementedIn t))) (at (tabulate 256 (coefficientIn t)))) (at table)))
+        NotOfClass
+        ≡ cond (b && every (2 ^ z .n) (showsBack (z .n) (f .mixed) (f .fixed) (shownPolarity (z .n) (f .mixed) (complementedIn t)) (complementedIn t) (coefficientIn t)))
+        (compared (firstDifference (z .n) (value (z .n) (complementedIn t) (coefficientIn t)) (at table)))
+        NotOfClass
+    go true h = rw (blocks-whole (legal-mixed (z .n) (z .k) (f .mixed) (f .fixed) h), complements-whole, coefficients-whole)
+    go false h = refl
+
+-- ---- what was handed up
+
+module _ (z : Sizes) (table s : List ℕ) where
+  pub record-judged : (x : ListingReading) → listingReading z s ≡ x → handedUp z x .answer ≡ answer.Given → judgedRecord z table (handedUp z x) ≡ judged z table x
+  unfolding handedUp
+  record-judged (shown f t) read e = record-shown z table s f t read
+  record-judged (refused number l) read e = let none : _≡_ {A = ℕ} 0 1 = cc in absurd (omega arith)
+
+  pub refused-judged : (x : ListingReading) (number l : ℕ) → handedUp z x .answer ≡ answer.Refused number l → Refused number l ≡ judged z table x
+  unfolding handedUp shownRead judged
+  refused-judged (shown f t) number l e = let none : _≡_ {A = ℕ} 0 1 = cc in absurd (omega arith)
+  refused-judged (refused number′ l′) number l e = cc

@@ -1,0 +1,6 @@
+pub mod Differences
+pub mod Bytes
+pub mod Answers
+pub mod Judging
+pub mod Printed
+pub mod OwnListing

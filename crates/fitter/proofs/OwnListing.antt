@@ -1,0 +1,69 @@
+-- The listing of any member that gives the table is the same as it, "cheap or not" (`member-same`); so the text call's listing beside its own text
+-- is `Same` (`own-same`).
+use mathlib.Core.List.{List}
+use mathlib.Core.Path.{_≡_, refl, ap, _∙_}
+use Prim.Native.Nat.{ℕ, _^_, _≤_}
+use native.Mathlib.Omega.{arith}
+use Rattle.numbers.specs.Bytes.{at}
+use Rattle.numbers.specs.Refusals.{Sized}
+use Rattle.numbers.proofs.Shifts.{points-le}
+use Rattle.expansions.specs.Members.{polarity, Gives}
+use Rattle.search.specs.declared.expansion.Expansion.{Expansion}
+use Rattle.search.specs.Expansion.{answerExpansion}
+use Rattle.search.proofs.expansion.Answer.{answerExpansion-is}
+use Rattle.listings.specs.Listing.{listing}
+use Rattle.listings.specs.Meaning.{statedMixed, statedFixed}
+use Rattle.table_texts.specs.declared.sizes.Sizes.{Sizes}
+use Rattle.table_texts.specs.Read.{Reading, given, reading}
+use Rattle.table_texts.proofs.read.Accepted.{reading-accepted}
+use Rattle.listing_texts.specs.Read.{listingReading}
+use Rattle.listing_texts.specs.ReadBack.{MemberRecord}
+use Rattle.listing_texts.proofs.ReadBack.{listing-terms, answer-record}
+use Rattle.text.specs.Compile.{answerListing}
+use Rattle.fitter.specs.declared.check.Checked.the-variants.{Same}
+use Rattle.fitter.specs.Check.{judged, checked}
+use Rattle.fitter.proofs.Bytes.{mixed-stated, fixed-stated}
+use Rattle.fitter.proofs.Answers.{answers-words}
+
+module _ (z : Sizes) (table : List ℕ) (e : Expansion) (sized : Sized (z .n) (z .m) (z .k)) (r : MemberRecord z e)
+    (gives : Gives (z .n) (e .mixed) (e .fixed) (at (e .blocks)) (at (e .coefficients)) (at table)) where
+  abbrev s : List ℕ
+  s = listing (z .n) (z .m) (z .k) e
+
+  abbrev w : ℕ → ℕ
+  w = polarity (z .n) (e .mixed) (e .fixed) (at (e .blocks))
+
+  few : 2 ^ z .n ≤ 256
+  few = points-le (z .n) (sized .inputs .1)
+
+  mixed : statedMixed s ≡ e .mixed
+  mixed =
+      mixed-stated z s (e .mixed) (e .fixed) w (at (e .coefficients)) sized (omega (arith, few, r .member .mask)) (omega (arith, few, r .member .fixed))
+      (listing-terms z e sized r)
+
+  fixed : statedFixed s ≡ e .fixed
+  fixed =
+      fixed-stated z s (e .mixed) (e .fixed) w (at (e .coefficients)) sized (omega (arith, few, r .member .mask)) (omega (arith, few, r .member .fixed))
+      (listing-terms z e sized r)
+
+  pub member-same : judged z table (listingReading z s) ≡ Same
+  member-same =
+      answers-words z table s sized (judged z table (listingReading z s)) refl .same .1 (
+        at (e .blocks),
+        at (e .coefficients),
+        record {
+          member = rw (mixed, fixed) (r .member);
+          outputs = λ t h. r .outputs t;
+          lines = rw (mixed, fixed) (listing-terms z e sized r);
+          gives = λ p h. rw (mixed, fixed) (gives p h);
+        },
+      )
+
+pub own-same : (text : List ℕ) (z : Sizes) (table : List ℕ) → reading text ≡ given z table → checked (reading text) (answerListing z table) ≡ Same
+unfolding checked answerListing
+own-same text z table e =
+    let a = reading-accepted text z table e in
+    let minimal = answerExpansion-is (z .n) (z .k) (at table) (a .sized .inputs .1) (a .sized .mixed .1) in
+    ap (λ (x : Reading). checked x (answerListing z table)) e
+    ∙ member-same z table (answerExpansion (z .n) (z .k) (at table)) (a .sized) (answer-record z (at table) (a .sized) (λ p h. a .table .small p))
+    (minimal .answer .gives)

@@ -1,0 +1,50 @@
+-- What is printed has at most 18 bytes (`printed-within`), and stands at the front of 18 bytes that were zero (`print-holds`).
+use mathlib.Core.List.{List, [], _∷_, _++_, map}
+use mathlib.Core.Path.{_≡_, refl, sym, ap, _∙_}
+use Prim.Native.Nat.{ℕ, _-_, _≤_}
+use native.Mathlib.Omega.{arith}
+use lib.Dec.{lit≤}
+use lib.ListN.{length, take, drop, replicate, length-append, length-replicate}
+use lib.Seq.{take-append-seam}
+use Rattle.numbers.proofs.Tables.{drop-zeros}
+use Rattle.listings.specs.Parts.{bytes}
+use Rattle.listings.specs.Listing.{line, tabbed, decimal}
+use Rattle.listings.proofs.Lengths.{digitsOf-le, length-numbers}
+use Rattle.table_texts.specs.Read.{reading}
+use Rattle.text.specs.Print.{judged}
+use Rattle.text.proofs.print.Refusals.{refused-line-le}
+use Rattle.writing.specs.Put.{Put}
+use Rattle.writing.proofs.Puts.{put-front}
+use Rattle.fitter.specs.declared.check.Checked.{Checked}
+use Rattle.fitter.specs.declared.check.Checked.the-variants.{Same, Differs, NotOfClass, Refused}
+use Rattle.fitter.specs.Check.{checked, Check}
+use Rattle.fitter.specs.Print.{answerLine, printed, Print}
+use Rattle.fitter.proofs.Answers.{check-words}
+
+answer-within : (a : Checked) → length (answerLine a) ≤ 18
+unfolding answerLine line tabbed bytes
+answer-within Same = lit≤ tt
+answer-within (Differs p) =
+    let xs : List ℕ = p ∷ [] in
+    omega (arith, length-append (tabbed (map decimal xs)) (10 ∷ []), length-numbers xs, digitsOf-le xs)
+answer-within NotOfClass = lit≤ tt
+answer-within (Refused number l) = refused-line-le number l
+
+pub print-holds : (text listing texts listings held : List ℕ) (r : Checked) (count : ℕ) → texts ≡ judged text → listings ≡ judged listing
+    → Check texts listings r → Put (replicate 18 0) 0 (answerLine r) held count → Print text listing held count
+unfolding printed
+print-holds text listing texts listings held r count et el c put =
+    let said : r ≡ checked (reading (judged text)) (judged listing) = c .answer ∙ rw (et, el) in
+    let line : answerLine r ≡ printed text listing = ap answerLine said in
+    let within : length (printed text listing) ≤ 18 = answer-within (checked (reading (judged text)) (judged listing)) in
+    let ec : count ≡ length (printed text listing) = omega (arith, put .to, ap length line) in
+    let front = put-front (omega (arith, answer-within r, length-replicate {A = ℕ} 18 0)) put in
+    let past = drop-zeros (length (printed text listing)) 18 within in
+    let filled : held ≡ printed text listing ++ replicate (18 - length (printed text listing)) 0 = front ∙ rw line (ap (λ (v : List ℕ). printed text listing ++ v) past) in
+    record {
+      counted = ec;
+      filled = filled;
+      within = omega (arith, ec, ap length filled, length-append (printed text listing) (replicate (18 - length (printed text listing)) 0));
+      shown = rw (ec, filled) (take-append-seam (printed text listing) _);
+      meaning = check-words (judged text) (judged listing) (checked (reading (judged text)) (judged listing)) refl;
+    }

@@ -1,0 +1,81 @@
+-- The fitter's check: the answer for every pair of byte strings; and when each answer is given, in document 02's words, over the listing's
+-- bytes. Document 02, W-201: "Read a listing beside its table text and say: not of the class; differs, with the lowest point that differs; or
+-- same."
+use mathlib.Core.Bool.{cond}
+use mathlib.Core.List.{List}
+use mathlib.Core.Logic.{_↔_}
+use mathlib.Core.Path.{_≡_}
+use Prim.Native.Nat.{ℕ, _^_, _<_}
+use Rattle.numbers.specs.Bytes.{at}
+use Rattle.algebra.specs.Terms.{value}
+use Rattle.expansions.specs.Least.{Best, nothing, best}
+use Rattle.expansions.specs.Members.{polarity, Member, Gives}
+use Rattle.listings.specs.Listing.{printedCubes}
+use Rattle.listings.specs.Meaning.{listingValue, listingCubes, statedMixed, statedFixed}
+use Rattle.membership.specs.Class.{ofClass}
+use Rattle.table_texts.specs.declared.sizes.Sizes.{Sizes}
+use Rattle.table_texts.specs.Read as tables
+use Rattle.listing_texts.specs.Listings.{termListing, Passes}
+use Rattle.listing_texts.specs.Rows.{coefficientIn, complementedIn}
+use Rattle.listing_texts.specs.Read.{ListingReading, shown, refused, listingReading}
+use Rattle.fitter.specs.Differences.{firstDifference}
+use Rattle.fitter.specs.declared.check.Checked.{Checked}
+use Rattle.fitter.specs.declared.check.Checked.the-variants.{Same, Differs, NotOfClass, Refused}
+
+-- ---- the answer as a function
+
+-- "differs, with the lowest point that differs; or same"
+abbrev pub compared : Best → Checked
+compared nothing = Same
+compared (best p) = Differs p
+
+-- "Class is judged before points.": the listing's refusal, or the answer on its rows
+unfoldable pub judged : Sizes → List ℕ → ListingReading → Checked
+judged z table (shown f rows) =
+    cond (ofClass (z .n) (z .k) (f .mixed) (f .fixed) (complementedIn rows) (coefficientIn rows))
+    (compared (firstDifference (z .n) (value (z .n) (complementedIn rows) (coefficientIn rows)) (at table)))
+    NotOfClass
+judged z table (refused number line) = Refused number line
+
+-- "The table text is judged first."
+unfoldable pub checked : tables.Reading → List ℕ → Checked
+checked (tables.given z table) s = judged z table (listingReading z s)
+checked (tables.refused number line) s = Refused number line
+
+-- ---- the answer in document 02's words
+
+-- "a member with the listing's M and i" that prints the listing's cubes: a block polarity for each block, and any coefficients
+abbrev pub PrintsCubes : Sizes → List ℕ → (φ c : ℕ → ℕ) → Type 0
+PrintsCubes z s φ c =
+    Member (z .n) (z .k) (statedMixed s) (statedFixed s) φ
+    × (printedCubes (z .n) (polarity (z .n) (statedMixed s) (statedFixed s) φ) c ≡ listingCubes s)
+
+-- "some member of 01's class with the listing's M and i prints just those lines, outputs and all, and gives every output at every point": the
+-- bytes are those of the member's listing, its coefficients have "bits m to 7 zero", and it gives the table
+pub record PrintsTable (z : Sizes) (table s : List ℕ) (φ c : ℕ → ℕ) : Type 0 where
+  pub member : Member (z .n) (z .k) (statedMixed s) (statedFixed s) φ
+  pub outputs : (t : ℕ) → t < 2 ^ z .n → c t < 2 ^ z .m
+  pub lines : s ≡ termListing z (statedMixed s) (statedFixed s) (polarity (z .n) (statedMixed s) (statedFixed s) φ) c
+  pub gives : Gives (z .n) (statedMixed s) (statedFixed s) φ c (at table)
+
+-- p is "the lowest point that differs": read from its own lines, the listing gives the table's byte at each point below p, and another at p
+pub record LowestDifference (n : ℕ) (table s : List ℕ) (p : ℕ) : Type 0 where
+  pub point : p < 2 ^ n
+  pub differs : listingValue s p ≡ at table p → ⊥
+  pub before : (q : ℕ) → q < p → listingValue s q ≡ at table q
+
+-- when each answer is given beside an accepted table text
+pub record Answers (z : Sizes) (table s : List ℕ) (r : Checked) : Type 0 where
+  -- "'Not of the class' is said exactly when no member with the listing's M and i prints those cubes.", of the listings that are not refused
+  pub not-of-class : (r ≡ NotOfClass) ↔ (Passes z s × ((φ c : ℕ → ℕ) → PrintsCubes z s φ c → ⊥))
+  -- "'Same' is said exactly when some member .. prints just those lines, outputs and all, and gives every output at every point, cheap or not."
+  pub same : (r ≡ Same) ↔ ((φ : ℕ → ℕ) × (c : ℕ → ℕ) × PrintsTable z table s φ c)
+  -- a member prints the cubes, and p is the lowest point that differs
+  pub differs : (p : ℕ) → (r ≡ Differs p) ↔ (Passes z s × ((φ : ℕ → ℕ) × (c : ℕ → ℕ) × PrintsCubes z s φ c) × LowestDifference (z .n) table s p)
+  -- a listing is refused exactly when it is not the listing of some terms, with the table's n, m and k and with its own counts
+  pub refusal : ((number line : ℕ) → r ≡ Refused number line → ⊥) ↔ Passes z s
+
+-- the check, for every pair of byte strings
+pub record Check (text s : List ℕ) (r : Checked) : Type 0 where
+  pub answer : r ≡ checked (tables.reading text) s
+  pub words : (z : Sizes) (table : List ℕ) → tables.reading text ≡ tables.given z table → Answers z table s r

@@ -1,0 +1,4 @@
+pub mod Differences
+pub mod Check
+pub mod Print
+pub mod inner

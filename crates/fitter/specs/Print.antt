@@ -1,0 +1,32 @@
+-- What the program `rmcheck` prints. Document 02, W-201: "say: not of the class; differs, with the lowest point that differs; or same"; a refusal
+-- is told as document 01's `rmform` tells it, by "the line `refused`, number, line".
+use mathlib.Core.List.{List, [], _∷_, _++_}
+use mathlib.Core.Path.{_≡_}
+use Prim.Native.Nat.{ℕ, _-_, _≤_}
+use lib.ListN.{length, take, replicate}
+use Rattle.listings.specs.Parts.{bytes}
+use Rattle.listings.specs.Listing.{line, decimal}
+use Rattle.table_texts.specs.Read.{reading}
+use Rattle.text.specs.Print.{judged, refusedLine}
+use Rattle.fitter.specs.declared.check.Checked.{Checked}
+use Rattle.fitter.specs.declared.check.Checked.the-variants.{Same, Differs, NotOfClass, Refused}
+use Rattle.fitter.specs.Check.{checked, Check}
+
+-- the line of an answer
+unfoldable pub answerLine : Checked → List ℕ
+answerLine Same = line (bytes "same") []
+answerLine (Differs p) = line (bytes "differs") (decimal p ∷ [])
+answerLine NotOfClass = line (bytes "not of the class") []
+answerLine (Refused number l) = refusedLine number l
+
+-- what is printed for the two inputs, of each of which the first 8,192 bytes are judged
+unfoldable pub printed : (text listing : List ℕ) → List ℕ
+printed text listing = answerLine (checked (reading (judged text)) (judged listing))
+
+-- What is handed out for the two inputs: 18 bytes, zero past what is printed, and how many are printed; and when each answer is given
+pub record Print (text listing held : List ℕ) (count : ℕ) : Type 0 where
+  pub counted : count ≡ length (printed text listing)
+  pub filled : held ≡ printed text listing ++ replicate (18 - length (printed text listing)) 0
+  pub within : count ≤ length held
+  pub shown : take count held ≡ printed text listing
+  pub meaning : Check (judged text) (judged listing) (checked (reading (judged text)) (judged listing))

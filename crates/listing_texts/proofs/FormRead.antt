@@ -1,0 +1,126 @@
+-- The first line of a listing: the line that is written for seven numbers says them (`form-said`), and a line that says seven numbers is the one
+-- that is written for them (`form-read`).
+use mathlib.Core.Bool.{Bool, true, false, cond}
+use mathlib.Core.List.{List, [], _∷_, _++_, map}
+use mathlib.Core.Path.{_≡_, refl, ap, _∙_}
+use Prim.Native.Nat.{ℕ, _<_}
+use native.Mathlib.Omega.{arith}
+use lib.Dec.{lit≤}
+use lib.ListN.{length, getD}
+use Rattle.listings.specs.Parts.{parts, bytes, same, field, fields}
+use Rattle.listings.specs.Listing.{tabbed, decimal}
+use Rattle.listings.proofs.Joined.{parts-fields}
+use Rattle.listings.proofs.Meaning.{plain-numbers, plain-form}
+use Rattle.lines.specs.declared.values.Number.{Number}
+use Rattle.lines.specs.declared.values.Number.the-variants as number
+use Rattle.lines.specs.Fields.{number, headed}
+use Rattle.lines.proofs.Written.{number-decimal}
+use Rattle.lines.proofs.FieldsRead.{number-read}
+use Rattle.lines.proofs.Headed.{list-three, headed-read}
+use Rattle.listing_texts.specs.declared.form.Form.{Form}
+use Rattle.listing_texts.specs.declared.form.FirstLine.{FirstLine}
+use Rattle.listing_texts.specs.declared.form.FirstLine.the-variants.{States, Wrong}
+use Rattle.listing_texts.specs.Form.{formOf, firstLine}
+
+-- the numbers of a first line, in their order
+abbrev pub formNumbers : Form → List ℕ
+formNumbers f = f .sizes .n ∷ f .sizes .m ∷ f .sizes .k ∷ f .mixed ∷ f .fixed ∷ f .products ∷ f .literals ∷ []
+
+-- each has at most four digits, and k has one
+pub record Digits (f : Form) : Type 0 where
+  pub n : f .sizes .n < 10000
+  pub m : f .sizes .m < 10000
+  pub k : f .sizes .k < 10
+  pub mixed : f .mixed < 10000
+  pub fixed : f .fixed < 10000
+  pub products : f .products < 10000
+  pub literals : f .literals < 10000
+
+-- ---- the line that is written
+
+pub form-said : (f : Form) → Digits f → firstLine (bytes "form" ++ tabbed (map decimal (formNumbers f))) ≡ States f
+unfolding firstLine headed fields same bytes
+form-said f d =
+    rw (
+      parts-fields (bytes "form") (map decimal (formNumbers f)) plain-form (plain-numbers (formNumbers f)),
+      number-decimal 4 (f .sizes .n) (lit≤ tt) (lit≤ tt) (d .n),
+      number-decimal 4 (f .sizes .m) (lit≤ tt) (lit≤ tt) (d .m),
+      number-decimal 1 (f .sizes .k) (lit≤ tt) (lit≤ tt) (d .k),
+      number-decimal 4 (f .mixed) (lit≤ tt) (lit≤ tt) (d .mixed),
+      number-decimal 4 (f .fixed) (lit≤ tt) (lit≤ tt) (d .fixed),
+      number-decimal 4 (f .products) (lit≤ tt) (lit≤ tt) (d .products),
+      number-decimal 4 (f .literals) (lit≤ tt) (lit≤ tt) (d .literals),
+    )
+
+-- ---- a line that is read
+
+wrong-states : {f : Form} → Wrong ≡ States f → ⊥
+wrong-states e = let z : _≡_ {A = ℕ} 0 1 = cc in omega arith
+
+-- what the seven fields say
+record Said (n m k M i p l : Number) (f : Form) : Type 0 where
+  n-said : n ≡ number.Is (f .sizes .n)
+  m-said : m ≡ number.Is (f .sizes .m)
+  k-said : k ≡ number.Is (f .sizes .k)
+  mixed-said : M ≡ number.Is (f .mixed)
+  fixed-said : i ≡ number.Is (f .fixed)
+  products-said : p ≡ number.Is (f .products)
+  literals-said : l ≡ number.Is (f .literals)
+
+form-fields : (n m k M i p l : Number) (f : Form) → formOf n m k M i p l ≡ States f → Said n m k M i p l f
+form-fields (number.Is n) (number.Is m) (number.Is k) (number.Is M) (number.Is i) (number.Is p) (number.Is l) f e =
+    let same : record { sizes = record { n = n; m = m; k = k }; mixed = M; fixed = i; products = p; literals = l } ≡ f = cc in
+    record {
+      n-said = ap (λ (g : Form). number.Is (g .sizes .n)) same;
+      m-said = ap (λ (g : Form). number.Is (g .sizes .m)) same;
+      k-said = ap (λ (g : Form). number.Is (g .sizes .k)) same;
+      mixed-said = ap (λ (g : Form). number.Is (g .mixed)) same;
+      fixed-said = ap (λ (g : Form). number.Is (g .fixed)) same;
+      products-said = ap (λ (g : Form). number.Is (g .products)) same;
+      literals-said = ap (λ (g : Form). number.Is (g .literals)) same;
+    }
+form-fields (number.Is n) (number.Is m) (number.Is k) (number.Is M) (number.Is i) (number.Is p) number.Wrong f e = absurd (wrong-states e)
+form-fields (number.Is n) (number.Is m) (number.Is k) (number.Is M) (number.Is i) number.Wrong l f e = absurd (wrong-states e)
+form-fields (number.Is n) (number.Is m) (number.Is k) (number.Is M) number.Wrong p l f e = absurd (wrong-states e)
+form-fields (number.Is n) (number.Is m) (number.Is k) number.Wrong i p l f e = absurd (wrong-states e)
+form-fields (number.Is n) (number.Is m) number.Wrong M i p l f e = absurd (wrong-states e)
+form-fields (number.Is n) number.Wrong k M i p l f e = absurd (wrong-states e)
+form-fields number.Wrong m k M i p l f e = absurd (wrong-states e)
+
+list-four : (fs : List (List ℕ)) → length fs ≡ 4 → fs ≡ getD fs 0 [] ∷ getD fs 1 [] ∷ getD fs 2 [] ∷ getD fs 3 [] ∷ []
+list-four [] e = absurd (omega arith)
+list-four (a ∷ fs) e = ap (λ (l : List (List ℕ)). a ∷ l) (list-three fs (omega arith))
+
+list-seven : (fs : List (List ℕ)) → length fs ≡ 7
+    → fs ≡ getD fs 0 [] ∷ getD fs 1 [] ∷ getD fs 2 [] ∷ getD fs 3 [] ∷ getD fs 4 [] ∷ getD fs 5 [] ∷ getD fs 6 [] ∷ []
+list-seven [] e = absurd (omega arith)
+list-seven (a ∷ []) e = absurd (omega arith)
+list-seven (a ∷ b ∷ []) e = absurd (omega arith)
+list-seven (a ∷ b ∷ c ∷ fs) e = ap (λ (l : List (List ℕ)). a ∷ b ∷ c ∷ l) (list-four fs (omega arith))
+
+pub form-read : (l : List ℕ) (f : Form) → firstLine l ≡ States f → (l ≡ bytes "form" ++ tabbed (map decimal (formNumbers f))) × Digits f
+unfolding firstLine fields
+form-read l f e = go (headed 8 (bytes "form") l) refl e where
+  go : (t : Bool) → headed 8 (bytes "form") l ≡ t
+      → cond t
+      (formOf (number 4 (field 1 l)) (number 4 (field 2 l)) (number 1 (field 3 l)) (number 4 (field 4 l)) (number 4 (field 5 l)) (number 4 (field 6 l))
+      (number 4 (field 7 l)))
+      Wrong
+      ≡ States f
+      → (l ≡ bytes "form" ++ tabbed (map decimal (formNumbers f))) × Digits f
+  go false h g = absurd (wrong-states g)
+  go true h g =
+      let shape = headed-read 7 (bytes "form") l h in
+      let said = form-fields _ _ _ _ _ _ _ f g in
+      let n = number-read 4 (field 1 l) _ (lit≤ tt) (said .n-said) in
+      let m = number-read 4 (field 2 l) _ (lit≤ tt) (said .m-said) in
+      let k = number-read 1 (field 3 l) _ (lit≤ tt) (said .k-said) in
+      let M = number-read 4 (field 4 l) _ (lit≤ tt) (said .mixed-said) in
+      let i = number-read 4 (field 5 l) _ (lit≤ tt) (said .fixed-said) in
+      let p = number-read 4 (field 6 l) _ (lit≤ tt) (said .products-said) in
+      let c = number-read 4 (field 7 l) _ (lit≤ tt) (said .literals-said) in
+      let numbers : parts 9 l .others ≡ map decimal (formNumbers f) =
+      list-seven (parts 9 l .others) (shape .1) ∙ cc (n .0, m .0, k .0, M .0, i .0, p .0, c .0) in (
+        shape .0 ∙ ap (λ (fs : List (List ℕ)). bytes "form" ++ tabbed fs) numbers,
+        record { n = n .1; m = m .1; k = k .1; mixed = M .1; fixed = i .1; products = p .1; literals = c .1 },
+      )

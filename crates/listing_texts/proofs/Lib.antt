@@ -1,0 +1,3 @@
+pub mod FormRead
+pub mod Exactness
+pub mod ReadBack

@@ -1,0 +1,111 @@
+-- `first_line` meets its contract, by those of its parts.
+use mathlib.Core.Path.{_∙_}
+use borrow.Author.Tests.{not-true, not-false}
+use Rattle.listings.specs.Parts.{bytes}
+use Rattle.listing_texts.specs.Form.{firstLine}
+use borrow.Author.Needs.{needs}
+use Rattle.listing_texts.proofs.form.first_line.Statement.{statement}
+use Rattle.listing_texts.proofs.form.first_line.Tie as tie
+
+slice-aggregate-headed : tie.Need-slice-aggregate-headed
+slice-aggregate-headed c = search needs
+
+headed-requires : tie.Need-headed-requires
+headed-requires c κs = search needs
+
+returns : tie.Need-returns
+unfolding firstLine bytes
+returns c = rw (← c .before .headed .ensures, not-true (c .before .headed .result) (c .if1 .taken))
+
+field-requires : tie.Need-field-requires
+field-requires c κs = search needs
+
+read-number-requires : tie.Need-read-number-requires
+read-number-requires c κs = search needs
+
+field-requires-2 : tie.Need-field-requires-2
+field-requires-2 c κs = search needs
+
+read-number-requires-2 : tie.Need-read-number-requires-2
+read-number-requires-2 c κs = search needs
+
+field-requires-3 : tie.Need-field-requires-3
+field-requires-3 c κs = search needs
+
+read-number-requires-3 : tie.Need-read-number-requires-3
+read-number-requires-3 c κs = search needs
+
+field-requires-4 : tie.Need-field-requires-4
+field-requires-4 c κs = search needs
+
+read-number-requires-4 : tie.Need-read-number-requires-4
+read-number-requires-4 c κs = search needs
+
+field-requires-5 : tie.Need-field-requires-5
+field-requires-5 c κs = search needs
+
+read-number-requires-5 : tie.Need-read-number-requires-5
+read-number-requires-5 c κs = search needs
+
+field-requires-6 : tie.Need-field-requires-6
+field-requires-6 c κs = search needs
+
+read-number-requires-6 : tie.Need-read-number-requires-6
+read-number-requires-6 c κs = search needs
+
+field-requires-7 : tie.Need-field-requires-7
+field-requires-7 c κs = search needs
+
+read-number-requires-7 : tie.Need-read-number-requires-7
+read-number-requires-7 c κs = search needs
+
+form-of-requires : tie.Need-form-of-requires
+form-of-requires c κs = search needs
+
+returns-2 : tie.Need-returns-2
+unfolding firstLine bytes
+returns-2 c =
+    let h = c .before .before .before .before .before .before .before .before .before .before .before .before .before .before .before in
+    c .form-of .ensures
+    ∙ rw (
+      ← h .before .headed .ensures,
+      not-false (h .before .headed .result) (h .if1 .left),
+      ← c .before .before .before .before .before .before .before .before .before .before .before .before .before .before .field .ensures,
+      ← c .before .before .before .before .before .before .before .before .before .before .before .before .before .read-number .ensures,
+      ← c .before .before .before .before .before .before .before .before .before .before .before .before .field2 .ensures,
+      ← c .before .before .before .before .before .before .before .before .before .before .before .read-number2 .ensures,
+      ← c .before .before .before .before .before .before .before .before .before .before .field3 .ensures,
+      ← c .before .before .before .before .before .before .before .before .before .read-number3 .ensures,
+      ← c .before .before .before .before .before .before .before .before .field4 .ensures,
+      ← c .before .before .before .before .before .before .before .read-number4 .ensures,
+      ← c .before .before .before .before .before .before .field5 .ensures,
+      ← c .before .before .before .before .before .read-number5 .ensures,
+      ← c .before .before .before .before .field6 .ensures,
+      ← c .before .before .before .read-number6 .ensures,
+      ← c .before .before .field7 .ensures,
+      ← c .before .read-number7 .ensures,
+    )
+
+pub first-line-spec : {M : Type 1} → statement M
+first-line-spec =
+    tie.close
+    (tie.spec
+    slice-aggregate-headed
+    headed-requires
+    returns
+    field-requires
+    read-number-requires
+    field-requires-2
+    read-number-requires-2
+    field-requires-3
+    read-number-requires-3
+    field-requires-4
+    read-number-requires-4
+    field-requires-5
+    read-number-requires-5
+    field-requires-6
+    read-number-requires-6
+    field-requires-7
+    read-number-requires-7
+    form-of-requires
+    returns-2)

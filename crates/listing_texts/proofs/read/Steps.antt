@@ -1,0 +1,29 @@
+-- The meaning of a listing by its first line, which is the bytes up to `to`, where the first byte 10 or the end of the listing is.
+use mathlib.Core.List.{List}
+use mathlib.Core.Path.{_≡_, sym, ap, ap₂, _∙_}
+use Prim.Native.Nat.{ℕ, suc, _+_, _<_, _≤_}
+use native.Mathlib.Nat.{zero-add}
+use native.Mathlib.Numerals.{add-one}
+use native.Mathlib.Omega.{arith}
+use lib.ListN.{length, take, drop}
+use Rattle.listings.specs.Parts.{parts}
+use Rattle.listings.specs.inner.Stops.{stop}
+use Rattle.listings.proofs.Parts.{first-take}
+use Rattle.table_texts.specs.declared.sizes.Sizes.{Sizes}
+use Rattle.listing_texts.specs.Read.{refused, listingReading}
+use Rattle.listing_texts.proofs.Exactness.{opened, reading-split, reading-unfinished}
+
+module _ (z : Sizes) (s : List ℕ) (to : ℕ) (e : to ≡ stop 10 s 0) where
+  first-length : to ≡ length (parts 10 s .first)
+  first-length = e ∙ zero-add _
+
+  first-part : take to s ≡ parts 10 s .first
+  first-part = rw first-length (first-take 10 s)
+
+  pub listing-unfinished : length s ≤ to → listingReading z s ≡ refused 11 1
+  listing-unfinished h = reading-unfinished z s (omega (arith, first-length))
+
+  pub listing-judged : to < length s → listingReading z s ≡ opened z (take to s) (drop (to + 1) s)
+  listing-judged h =
+      reading-split z s (omega (arith, first-length))
+      ∙ ap₂ (opened z) (sym first-part) (ap (λ (i : ℕ). drop i s) (sym (add-one to ∙ ap suc first-length)))

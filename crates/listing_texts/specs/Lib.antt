@@ -1,0 +1,7 @@
+pub mod Rows
+pub mod Form
+pub mod Read
+pub mod Record
+pub mod ReadBack
+pub mod Listings
+pub mod inner

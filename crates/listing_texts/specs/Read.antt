@@ -1,0 +1,57 @@
+-- What a listing beside a table means: the numbers of its first line and its rows, or the refusal that it meets. Document 02, W-201.
+use mathlib.Core.Bool.{Bool, cond, _&&_}
+use mathlib.Core.List.{List, [], _∷_}
+use Prim.Native.Nat.{ℕ}
+use lib.Dec.{eqb}
+use lib.ListN.{replicate}
+use Rattle.numbers.specs.Refusals.{sizesRefusal}
+use Rattle.expansions.specs.Costs.{products, literals}
+use Rattle.listings.specs.Parts.{parts}
+use Rattle.lines.specs.declared.rows.Grammar.{Grammar}
+use Rattle.lines.specs.Rows as lines
+use Rattle.table_texts.specs.declared.sizes.Sizes.{Sizes}
+use Rattle.listing_texts.specs.declared.form.Form.{Form}
+use Rattle.listing_texts.specs.declared.form.FirstLine.{FirstLine}
+use Rattle.listing_texts.specs.declared.form.FirstLine.the-variants.{States, Wrong}
+use Rattle.listing_texts.specs.Form.{firstLine}
+use Rattle.listing_texts.specs.Rows.{coefficientIn}
+
+-- the numbers of a first line with the rows of the `term` lines; or "11 with its line in the listing" and "12 with line 1"
+pub data ListingReading : Type 0 where
+  shown : (form : Form) (rows : List ℕ) → ListingReading
+  refused : (number line : ℕ) → ListingReading
+
+-- ---- the judgement
+
+-- "n, m or k unlike the table's is 12 with line 1": the sizes z are a table's, and those of the listing are the same
+unfoldable pub alike : Sizes → Sizes → Bool
+alike z y = eqb (sizesRefusal (z .n) (z .m) (z .k)) 0 && (eqb (y .n) (z .n) && (eqb (y .m) (z .m) && eqb (y .k) (z .k)))
+
+-- "counts unlike the lines are 12 with line 1": the products and the literals that the first line states are those of the `term` lines
+unfoldable pub countsRight : ℕ → Form → List ℕ → Bool
+countsRight n f rows = eqb (f .products) (products n (coefficientIn rows)) && eqb (f .literals) (literals n (coefficientIn rows))
+
+-- "A broken listing line, or a term whose t is not above the one before, is 11 with its line in the listing, and so is an end that refusal 6
+-- would catch in a table text"; the counts are judged "after every line has passed"
+unfoldable pub linesJudged : ℕ → Form → lines.RowsRead → ListingReading
+linesJudged n f (lines.rows values) = cond (countsRight n f values) (shown f values) (refused 12 1)
+linesJudged n f (lines.refused number line) = refused 11 line
+
+-- a broken first line is 11; unlike sizes are 12 "before any later line is read"
+abbrev pub firstJudged : FirstLine → Sizes → (Form → ListingReading) → ListingReading
+firstJudged (States f) z next = cond (alike z (f .sizes)) (next f) (refused 12 1)
+firstJudged Wrong z next = refused 11 1
+
+-- the lines of the listing of a table with the sizes z
+abbrev pub grammar : Sizes → Grammar
+grammar z = lines.listingGrammar (z .n) (z .m)
+
+-- the first line, and the lines after it; a first line that no byte 10 ends is 11
+unfoldable pub allLines : Sizes → List ℕ → List (List ℕ) → ListingReading
+allLines z l [] = refused 11 1
+allLines z l (l′ ∷ ls) =
+    firstJudged (firstLine l) z (λ f. linesJudged (z .n) f (lines.laterLines (lines.rowLine (grammar z)) (z .n) 2 0 (replicate 256 0) l′ ls))
+
+-- "Read a listing beside its table text": what the bytes of a listing mean beside a table with the sizes z
+unfoldable pub listingReading : Sizes → List ℕ → ListingReading
+listingReading z s = allLines z (parts 10 s .first) (parts 10 s .others)

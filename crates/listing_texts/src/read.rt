@@ -1,0 +1,170 @@
+// Reading a listing beside the sizes of its table, line by line; the first bad line counts. For all sizes and every listing, `read_listing`
+// hands up what `listingReading` in specs/Read.antt says.
+use crate::form::FirstLine;
+use crate::form::Form;
+use crate::form::first_line;
+use crate::shown::bytes_of;
+use crate::shown::count_rows;
+use crate::shown::shown_blocks;
+use lines::cursor::Cursor;
+use lines::judge::PLACES;
+use lines::judge::RowsAnswer;
+use lines::judge::judge_rows;
+use lines::rows::Grammar;
+use lines::rows::Kind;
+use numbers::refusals::judge_sizes;
+use search::expansion::Expansion;
+use table_texts::sizes::Sizes;
+ghost use mathlib.Core.Path.{_≡_};
+ghost use Prim.Native.Nat.{ℕ, _≤_, _<_};
+ghost use lib.ListN.{replicate};
+ghost use Rattle.numbers.specs.Bytes.{at};
+ghost use Rattle.lines.specs.Rows as rowsRead;
+ghost use Rattle.lines.specs.inner.Steps.{rowsAt, Within};
+ghost use Rattle.listing_texts.specs.Read.{alike, linesJudged, grammar, listingReading};
+ghost use Rattle.listing_texts.specs.Record.{shownRead, handedUp};
+ghost use Rattle.listing_texts.specs.inner.Judging.{standsFor};
+
+// The reading's answer. A refusal has document 02's number and the line in the listing.
+pub enum ListingAnswer {
+    Given,
+    Refused { number: usize, line: usize },
+}
+
+// What the reading hands up: the record that the lines show, and the inputs that the cube of each term shows complemented.
+pub struct ListingRead {
+    pub answer: ListingAnswer,
+    pub expansion: Expansion,
+    pub complements: [u8; Expansion::PLACES],
+}
+
+// What judging leads to: the numbers of the first line, or a refusal.
+enum Judged {
+    Passed(Form),
+    Refused { number: usize, line: usize },
+}
+
+// Whether the sizes of a table are none that document 01 refuses, and those of the listing are the same.
+fn alike(table: Sizes, listing: Sizes) -> bool
+    ensures { λ r. ⌜ r ≡ alike table listing ⌝ }
+{
+    if judge_sizes(table.n, table.m, table.k) != 0 {
+        return false;
+    }
+    if listing.n != table.n {
+        return false;
+    }
+    if listing.m != table.m {
+        return false;
+    }
+    listing.k == table.k
+}
+
+// Judges the counts that the first line states, once every line has passed.
+fn judge_counts(n: usize, form: Form, rows: &[u16; PLACES]) -> Judged
+    requires { ⌜ n ≤ 8 ⌝ }
+    ensures { λ r. ⌜ standsFor r (now (rows .entry)) ≡ linesJudged n form (rowsRead.rows (now (rows .entry))) ⌝ }
+{
+    let counted = count_rows(n, rows);
+    if form.products != counted.products {
+        return Judged::Refused {
+            number: 12,
+            line: 1,
+        };
+    }
+    if form.literals != counted.literals {
+        return Judged::Refused {
+            number: 12,
+            line: 1,
+        };
+    }
+    Judged::Passed(form)
+}
+
+// Judges the lines after the first, and fills the rows, which come all zero.
+fn judge_terms(
+    listing: &[u8],
+    start: Cursor,
+    sizes: Sizes,
+    form: Form,
+    rows: &mut [u16; PLACES],
+) -> Judged
+    requires { ⌜ (Within (now listing) start) × (sizes .n ≤ 8) × (sizes .m ≤ 8) ⌝ }
+    ensures { λ r. ⌜ standsFor r (now (rows .exit)) ≡ linesJudged (sizes .n) form (rowsAt (now (listing .entry)) (grammar sizes) start 0 (now (rows .entry))) ⌝ }
+{
+    let grammar = Grammar {
+        kind: Kind::Listing,
+        n: sizes.n,
+        m: sizes.m,
+    };
+    match judge_rows(listing, start, grammar, rows) {
+        RowsAnswer::Done => judge_counts(sizes.n, form, rows),
+        RowsAnswer::Refused { number, line } => Judged::Refused { number: 11, line },
+    }
+}
+
+// Judges the listing from its first line on, and fills the rows, which come all zero.
+fn judge_listing(sizes: Sizes, listing: &[u8], rows: &mut [u16; PLACES]) -> Judged
+    requires { ⌜ now rows ≡ replicate 256 0 ⌝ }
+    ensures { λ r. ⌜ standsFor r (now (rows .exit)) ≡ listingReading sizes (now (listing .entry)) ⌝ }
+{
+    let stop = Cursor::new().seek(listing, b'\n');
+    let to = stop.at;
+    if to == listing.len() {
+        return Judged::Refused {
+            number: 11,
+            line: 1,
+        };
+    }
+    let FirstLine::States(form) = first_line(&listing[..to]) else {
+        return Judged::Refused {
+            number: 11,
+            line: 1,
+        };
+    };
+    if !alike(sizes, form.sizes) {
+        return Judged::Refused {
+            number: 12, // before any later line is read
+            line: 1,
+        };
+    }
+    judge_terms(listing, stop.next_line(), sizes, form, rows)
+}
+
+// The record of a listing that passed.
+fn shown_listing(n: usize, form: Form, rows: &[u16; PLACES]) -> ListingRead
+    requires { ⌜ (n ≤ 8) × ((t : ℕ) → at (now rows) t < 65536) ⌝ }
+    ensures { λ r. ⌜ r ≡ shownRead n form (now (rows .entry)) ⌝ }
+{
+    let complements = bytes_of(rows, 8);
+    let expansion = Expansion {
+        coefficients: bytes_of(rows, 0),
+        blocks: shown_blocks(n, form.mixed, &complements),
+        mixed: form.mixed,
+        fixed: form.fixed,
+        products: form.products,
+        literals: form.literals,
+    };
+    ListingRead {
+        answer: ListingAnswer::Given,
+        expansion,
+        complements,
+    }
+}
+
+// Reads a listing beside a table with these sizes. It hands up the record that the lines show, a polarity that no cube shows being plain,
+// and the inputs that each cube shows complemented. It refuses a bad line by 11, with the line, and sizes or counts that are not the
+// table's or the lines' by 12, with line 1; then the record is the empty one.
+pub fn read_listing(sizes: Sizes, listing: &[u8]) -> ListingRead
+    ensures { λ r. ⌜ r ≡ handedUp sizes (listingReading sizes (now (listing .entry))) ⌝ }
+{
+    let mut rows = [0u16; PLACES];
+    match judge_listing(sizes, listing, &mut rows) {
+        Judged::Passed(form) => shown_listing(sizes.n, form, &rows),
+        Judged::Refused { number, line } => ListingRead {
+            answer: ListingAnswer::Refused { number, line },
+            expansion: Expansion::empty(sizes.k),
+            complements: [0u8; PLACES],
+        },
+    }
+}
