@@ -1,5 +1,6 @@
 /*
- * The calls of Mipaldoz for programs in C and C++: both transforms, the minimising call, the reading call and the text call.
+ * The calls of Mipaldoz for programs in C and C++: both transforms, the minimising call, the reading call, the text call and the fitter's
+ * check of a listing.
  *
  *     rt staticlib capi                                          writes target/staticlib/libcapi.a
  *     cc -Iinclude program.c target/staticlib/libcapi.a          links it; no other library is needed
@@ -16,7 +17,7 @@
  *
  * Answers. Each call returns its answer in the lent array `answer` and writes all of it, whatever it held. answer[MIPALDOZ_NUMBER] is 0
  * where the call was carried out; else it is the number of the refusal, answer[MIPALDOZ_LINE] is its line, and the rest is 0. Lines count
- * from 1; the line is 0 where no text was lent, and for the refusals 7 to 10.
+ * from 1; the line is 0 where no text was lent, and for the refusals 7 to 10. For 11 and 12 it is the line in the listing.
  *
  * Under a refusal no byte of a lent buffer changes. `answer` is the return value and not such a buffer: it changes.
  *
@@ -47,6 +48,7 @@ extern "C" {
 #define MIPALDOZ_MINIMISE_ANSWER 6
 #define MIPALDOZ_READ_ANSWER 5
 #define MIPALDOZ_COMPILE_ANSWER 3
+#define MIPALDOZ_CHECK_ANSWER 4
 
 /* Which number of an answer is which. */
 enum mipaldoz_answer {
@@ -63,22 +65,34 @@ enum mipaldoz_answer {
     MIPALDOZ_OUTPUTS = 3,      /* m */
     MIPALDOZ_MIXED_INPUTS = 4, /* k; 1 where the text has `-` */
     /* of mipaldoz_compile */
-    MIPALDOZ_LENGTH = 2 /* the length of the listing, in bytes */
+    MIPALDOZ_LENGTH = 2, /* the length of the listing, in bytes */
+    /* of mipaldoz_check */
+    MIPALDOZ_OUTCOME = 2, /* what is said of the listing: enum mipaldoz_outcome; 0 under a refusal */
+    MIPALDOZ_POINT = 3    /* the lowest point that differs; 0 where the outcome is another */
+};
+
+/* What the check says of a listing that is not refused. */
+enum mipaldoz_outcome {
+    MIPALDOZ_SAME = 1,        /* it is a member's listing, and gives every output at every point */
+    MIPALDOZ_DIFFERS = 2,     /* its cubes are a member's, and at the lowest point that differs it gives other outputs than the table */
+    MIPALDOZ_NOT_OF_CLASS = 3 /* no member with its M and i prints its cubes */
 };
 
 /* Why a call declines. */
 enum mipaldoz_refusal {
     MIPALDOZ_CARRIED_OUT = 0,
-    MIPALDOZ_BAD_LINE = 1,     /* a line of the text breaks its grammar */
-    MIPALDOZ_BAD_INPUTS = 2,   /* n is not 1 to 8 */
-    MIPALDOZ_BAD_OUTPUTS = 3,  /* m is not 1 to 8 */
-    MIPALDOZ_BAD_MIXED = 4,    /* k is above 3 or above n */
-    MIPALDOZ_BAD_POINT = 5,    /* a point is 2^n or more, or not above the one before */
-    MIPALDOZ_BAD_END = 6,      /* the text stops where a line should begin and no `end` line has come, or bytes follow the `end` line */
-    MIPALDOZ_BAD_POLARITY = 7, /* w is 2^n or more */
-    MIPALDOZ_BAD_LENGTH = 8,   /* a buffer has another length than its call states */
-    MIPALDOZ_BAD_BYTE = 9,     /* a byte of the table or of the coefficients has a bit at m or above set */
-    MIPALDOZ_SHORT_OUTPUT = 10 /* the output buffer is shorter than the listing */
+    MIPALDOZ_BAD_LINE = 1,      /* a line of the text breaks its grammar */
+    MIPALDOZ_BAD_INPUTS = 2,    /* n is not 1 to 8 */
+    MIPALDOZ_BAD_OUTPUTS = 3,   /* m is not 1 to 8 */
+    MIPALDOZ_BAD_MIXED = 4,     /* k is above 3 or above n */
+    MIPALDOZ_BAD_POINT = 5,     /* a point is 2^n or more, or not above the one before */
+    MIPALDOZ_BAD_END = 6,       /* the text stops where a line should begin and no `end` line has come, or bytes follow the `end` line */
+    MIPALDOZ_BAD_POLARITY = 7,  /* w is 2^n or more */
+    MIPALDOZ_BAD_LENGTH = 8,    /* a buffer has another length than its call states */
+    MIPALDOZ_BAD_BYTE = 9,      /* a byte of the table or of the coefficients has a bit at m or above set */
+    MIPALDOZ_SHORT_OUTPUT = 10, /* the output buffer is shorter than the listing */
+    MIPALDOZ_BAD_LISTING = 11,  /* a line of the listing is broken, its t is not above the one before, or the listing ends wrongly */
+    MIPALDOZ_OTHER_LISTING = 12 /* the listing's n, m or k is not the table's, or its counts are not those of its lines */
 };
 
 /*
@@ -161,6 +175,23 @@ void mipaldoz_read(const uint8_t *text, size_t text_length,
 void mipaldoz_compile(const uint8_t *text, size_t text_length,
                       uint8_t *output, size_t output_length,
                       uint64_t answer[MIPALDOZ_COMPILE_ANSWER]);
+
+/*
+ * Reads a listing beside its table text and says whether it is of the class and gives the table. Both are only read.
+ *
+ *   text           any bytes, any length; no zero byte ends it
+ *   listing        any bytes, any length; no zero byte ends it
+ *   answer         number, line, outcome, point
+ *
+ * The outcome is MIPALDOZ_NOT_OF_CLASS where no member with the listing's M and i prints its cubes; else MIPALDOZ_DIFFERS with the lowest
+ * point at which the listing's own lines do not give the table's outputs; else MIPALDOZ_SAME, whether the listing is the cheapest or not.
+ *
+ * Refusals, the first that applies: the text as in mipaldoz_read, 1 to 6 with the line in the text. Then line 1 of the listing: 11 where it
+ * is broken, 12 where its n, m or k is not the table's. Then its later lines, one by one: 11 with the line. Then its counts: 12, line 1.
+ */
+void mipaldoz_check(const uint8_t *text, size_t text_length,
+                    const uint8_t *listing, size_t listing_length,
+                    uint64_t answer[MIPALDOZ_CHECK_ANSWER]);
 
 #ifdef __cplusplus
 }

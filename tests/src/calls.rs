@@ -48,6 +48,13 @@ unsafe extern "C" {
         output_len: usize,
         answer: *mut u64,
     );
+    fn mipaldoz_check(
+        text: *const u8,
+        text_len: usize,
+        listing: *const u8,
+        listing_len: usize,
+        answer: *mut u64,
+    );
 }
 
 /// The numbers of a transform's answer: number, line.
@@ -154,4 +161,15 @@ pub fn compile(text: &[u8], output: &mut [u8], answer: &mut CompileAnswer) {
     let lent = (output.as_mut_ptr(), output.len());
     // SAFETY: each pointer goes with the length of its own slice, and the answer has its three places.
     unsafe { mipaldoz_compile(text.as_ptr(), text.len(), lent.0, lent.1, answer.as_mut_ptr()) }
+}
+
+/// The numbers of the fitter's check: number, line, outcome, point.
+pub type CheckAnswer = [u64; 4];
+
+/// The fitter's check: judges a listing beside its table text.
+#[inline]
+pub fn check(text: &[u8], listing: &[u8], answer: &mut CheckAnswer) {
+    let lent = (listing.as_ptr(), listing.len());
+    // SAFETY: each pointer goes with the length of its own slice, and the answer has its four places.
+    unsafe { mipaldoz_check(text.as_ptr(), text.len(), lent.0, lent.1, answer.as_mut_ptr()) }
 }

@@ -5,12 +5,13 @@ mod block_search;
 mod every_member;
 
 pub use block_search::least;
-pub use every_member::Class;
+pub use every_member::{Class, members_with};
 
 use crate::evaluator::{
-    Refusal, complemented, holds, inputs, judge_bits, judge_lengths, judge_sizes, literals,
-    number_of, places, value,
+    Refusal, complemented, forward, holds, inputs, judge_bits, judge_lengths, judge_sizes,
+    literals, number_of, places, value,
 };
+use std::collections::BTreeMap;
 use std::iter::Sum;
 
 /// A member: the mixed set M, the fixed polarity i and one polarity over M for each block.
@@ -57,6 +58,11 @@ pub fn fixed_polarities(n: usize, mixed: usize) -> impl Iterator<Item = usize> {
     (0..places(n)).filter(move |&w| inputs(n).all(|i| !(holds(mixed, i) && complemented(w, i))))
 }
 
+/// Whether some member has this M and i.
+pub fn is_of_a_member(n: usize, k: usize, mixed: usize, fixed: usize) -> bool {
+    mixed_sets(n, k).any(|set| set == mixed) && fixed_polarities(n, mixed).any(|w| w == fixed)
+}
+
 /// What coefficients cost. Fewer products come first, then fewer literals.
 #[derive(Clone, Copy, Debug, Default, PartialEq, Eq, PartialOrd, Ord)]
 pub struct Cost {
@@ -95,6 +101,18 @@ impl Expansion {
         Expansion { member, coefficients, cost }
     }
 
+    /// This member with the coefficients that give the table: a term has the one that it has in the
+    /// fixed-polarity expansion under its own polarity.
+    pub fn giving(n: usize, member: Member, table: &[u8]) -> Self {
+        let mut expansions = BTreeMap::new();
+        let mut coefficient = |t| {
+            let polarity = member.polarity(n, t);
+            expansions.entry(polarity).or_insert_with(|| forward(n, polarity, table))[t]
+        };
+        let coefficients = (0..places(n)).map(&mut coefficient).collect();
+        Expansion::new(n, member, coefficients)
+    }
+
     /// The table that this expansion gives, point by point.
     pub fn table(&self, n: usize) -> Vec<u8> {
         let polarities: Vec<usize> = (0..places(n)).map(|t| self.member.polarity(n, t)).collect();
@@ -128,6 +146,7 @@ pub fn judge_minimise(
 mod tests {
     use super::*;
     use crate::seeded::Seeded;
+    use crate::seeded::listings::any_member;
     use crate::seeded::tables::{any_table, every_table};
 
     /// The two searches agree, and what they find gives the table.
@@ -158,6 +177,18 @@ mod tests {
                     agree(n, k, &class, &any_table(&mut seeded, n, m));
                 }
             }
+        }
+    }
+
+    #[test]
+    fn any_member_gives_the_table() {
+        let mut seeded = Seeded::new(3);
+        for round in 0..200 {
+            let n = 1 + round % 8;
+            let (m, k) = (seeded.within(1, 8), seeded.below(n.min(3) + 1));
+            let table = any_table(&mut seeded, n, m);
+            let member = any_member(&mut seeded, n, k);
+            assert_eq!(Expansion::giving(n, member, &table).table(n), table);
         }
     }
 

@@ -1,9 +1,10 @@
-//! Cases for the expansion calls. Document 01's sentences are evaluated here input by input and point
-//! by point, and every answer of a call is compared with that evaluation.
+//! Cases for the exported calls. The sentences of documents 01 and 02 are evaluated here input by input
+//! and point by point, and every answer of a call is compared with that evaluation.
 
 pub mod c_search;
 pub mod calls;
 pub mod cases;
+pub mod check;
 pub mod class;
 pub mod evaluator;
 pub mod lent;

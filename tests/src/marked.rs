@@ -1,6 +1,8 @@
 //! Designs and texts whose answers are written down by hand: document 01's own, the ones that tell a
 //! misreading of the method from the method, and texts on both sides of each refusal.
 
+pub mod pairs;
+
 /// A design with its figures.
 pub struct Marked {
     pub n: usize,

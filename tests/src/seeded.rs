@@ -1,5 +1,6 @@
 //! Cases drawn from a seed, the same in every run.
 
+pub mod listings;
 pub mod tables;
 pub mod texts;
 

@@ -6,7 +6,7 @@ pub mod listing;
 use crate::class::least;
 use crate::evaluator::{Refusal, judge_lengths, places};
 use fields::{Line, Lines, outputs_field, read_digit, read_number, read_outputs};
-use listing::listing;
+use listing::Listing;
 
 /// What a table text says.
 #[derive(Clone, Debug, PartialEq, Eq)]
@@ -93,14 +93,17 @@ fn read_on(line: &Line, m: usize) -> Option<(usize, u8)> {
 /// The listing of a table text, or its refusal.
 pub fn compile(text: &[u8]) -> Result<Vec<u8>, Refusal> {
     let design = read(text)?;
-    Ok(listing(&design, &least(design.n, design.k, &design.table)))
+    Ok(Listing::of(&design, &least(design.n, design.k, &design.table)).bytes())
 }
 
 /// What the program writes for a text: the listing, or `refused`, number, line.
 pub fn printed(text: &[u8]) -> Vec<u8> {
-    compile(text).unwrap_or_else(|Refusal { number, line }| {
-        format!("refused\t{number}\t{line}\n").into_bytes()
-    })
+    compile(text).unwrap_or_else(refused)
+}
+
+/// The line that a program writes for a refusal.
+pub fn refused(Refusal { number, line }: Refusal) -> Vec<u8> {
+    format!("refused\t{number}\t{line}\n").into_bytes()
 }
 
 /// The judgement of the reading call: 1 to 6, then 8.

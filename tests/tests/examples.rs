@@ -1,6 +1,8 @@
-//! The designs of `examples/`: the program writes each stored listing, and the evaluator agrees.
+//! The designs of `examples/`: `rmform` writes each stored listing, the evaluator agrees, and `rmcheck` says
+//! `same` of it; and the edited listings of `examples/checks/`, with the line that `rmcheck` writes for each.
 
-use outside_cases::program::run;
+use outside_cases::check;
+use outside_cases::program::{run, run_check};
 use outside_cases::text::printed;
 use std::fs::{read, read_dir};
 use std::path::{Path, PathBuf};
@@ -23,5 +25,38 @@ fn listings_are_written() {
         assert!(listing.starts_with(b"form\t"), "{}", table.display());
         assert_eq!(run(&[&text], || ()), listing, "{}", table.display());
         assert_eq!(printed(&text), listing, "{}", table.display());
+    }
+}
+
+#[test]
+fn listings_are_the_same() {
+    for table in tables() {
+        let listing = table.with_extension("listing");
+        assert_eq!(run_check(&[&table, &listing]).stdout, b"same\n", "{}", table.display());
+    }
+}
+
+/// The listings of `examples/checks/` and the line for each beside the till's wake line, by hand.
+const CHECKS: [(&str, &str); 6] = [
+    ("against-i", "not of the class\n"),
+    ("block-disagrees", "not of the class\n"),
+    ("dearer", "same\n"),
+    ("differs", "differs\t4\n"),
+    ("line-moved", "refused\t11\t4\n"),
+    ("term-removed", "refused\t12\t1\n"),
+];
+
+#[test]
+fn edited_listings_are_judged() {
+    let directory = Path::new(env!("CARGO_MANIFEST_DIR")).join("../examples");
+    let table = directory.join("till-wake.table");
+    let text = read(&table).expect("a table text");
+    let edited = read_dir(directory.join("checks")).expect("the edited listings are there");
+    assert_eq!(edited.count(), CHECKS.len());
+    for (name, line) in CHECKS {
+        let path = directory.join("checks").join(name).with_extension("listing");
+        let listing = read(&path).expect("an edited listing");
+        assert_eq!(run_check(&[&table, &path]).stdout, line.as_bytes(), "{name}");
+        assert_eq!(check::printed(&text, &listing), line.as_bytes(), "{name}");
     }
 }

@@ -1,7 +1,11 @@
 //! The C header `include/mipaldoz.h`: its constants are the ones that the calls and the evaluator have, and
 //! its declarations are those of the functions that `crates/capi` exports.
 
-use outside_cases::calls::{CompileAnswer, MinimiseAnswer, ReadAnswer, TransformAnswer};
+use outside_cases::calls::{
+    CheckAnswer, CompileAnswer, MinimiseAnswer, ReadAnswer, TransformAnswer,
+};
+use outside_cases::check::{Verdict, answer, check};
+use outside_cases::marked::{EXAMPLE, bytes};
 use outside_cases::seeded::tables::longest_listing_table;
 use outside_cases::text::{Design, printed};
 use std::collections::{BTreeMap, BTreeSet};
@@ -71,7 +75,7 @@ fn declarations_are_those_of_the_exported_functions() {
     let declared = functions(&header, "\nvoid ");
     let declared = declared.into_iter().map(|(name, parameters)| (name.to_string(), parameters));
     assert_eq!(declared.collect::<BTreeSet<_>>(), exported);
-    assert!(exported.len() >= 5, "{} functions", exported.len());
+    assert!(exported.len() >= 6, "{} functions", exported.len());
 }
 
 #[test]
@@ -90,7 +94,30 @@ fn limits_and_lengths() {
         ("MINIMISE_ANSWER", MinimiseAnswer::default().len()),
         ("READ_ANSWER", ReadAnswer::default().len()),
         ("COMPILE_ANSWER", CompileAnswer::default().len()),
+        ("CHECK_ANSWER", CheckAnswer::default().len()),
     ] {
         assert_eq!(constants.get(&format!("MIPALDOZ_{name}")), Some(&number), "{name}");
+    }
+}
+
+/// The outcomes of the fitter's check and its refusals, in their places of the answer.
+#[test]
+fn numbers_of_the_check() {
+    let constants = constants(&header());
+    let constant = |name: &str| constants.get(&format!("MIPALDOZ_{name}")).copied();
+    let number = |judged, place| Some(answer(judged)[constant(place).expect(place)] as usize);
+    for (name, verdict) in [
+        ("SAME", Verdict::Same),
+        ("DIFFERS", Verdict::Differs { point: 3 }),
+        ("NOT_OF_CLASS", Verdict::NotOfClass),
+    ] {
+        assert_eq!(constant(name), number(Ok(verdict), "OUTCOME"), "{name}");
+    }
+    assert_eq!(number(Ok(Verdict::Differs { point: 3 }), "POINT"), Some(3));
+    for (name, listing) in
+        [("BAD_LISTING", &b"end\n"[..]), ("OTHER_LISTING", b"form 3 2 1 1 2 2 2\n")]
+    {
+        let refused = check(&bytes(EXAMPLE), &bytes(listing));
+        assert_eq!(constant(name), number(refused, "NUMBER"), "{name}");
     }
 }

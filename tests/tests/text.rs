@@ -1,14 +1,13 @@
 //! The reading call and the text call against the evaluator's own reader, search and writer.
 
 use outside_cases::calls::{self, CompileAnswer, ReadAnswer};
-use outside_cases::class::mixed_sets;
+use outside_cases::check::{Verdict, check};
 use outside_cases::evaluator::{Refusal, places};
 use outside_cases::lent::{Lent, answer};
 use outside_cases::marked::{ACCEPTED, EXAMPLE, REFUSED, bytes};
 use outside_cases::seeded::Seeded;
 use outside_cases::seeded::tables::{longest_listing_table, random_table};
 use outside_cases::seeded::texts::{TELLING_BYTES, damaged_text, sound_text};
-use outside_cases::text::listing::Listing;
 use outside_cases::text::{Design, compile, judge_output, judge_read, read};
 
 /// Makes the reading call with margins around every buffer.
@@ -67,27 +66,13 @@ fn check_output(
             let (written, kept) = output.inside().split_at(listing.len());
             assert_eq!(written.escape_ascii().to_string(), listing.escape_ascii().to_string());
             assert_eq!(kept, &output.before()[listing.len()..], "{shown}");
-            check_listing(&read(text).expect("a sound text"), written);
+            assert_eq!(check(text, written), Ok(Verdict::Same), "{shown}");
         }
         Err(Refusal { number, line }) => {
             assert_eq!(answer, [number, line, 0], "{shown}");
             output.check_untouched();
         }
     }
-}
-
-/// What a listing's own lines say: the design's sizes, its table at every point, true counts, terms that
-/// ascend, and cubes that a member with its M and i has.
-fn check_listing(design: &Design, written: &[u8]) {
-    let listing = Listing::read(written).expect("a sound listing");
-    let Design { n, m, k, ref table } = *design;
-    assert_eq!([listing.n, listing.m, listing.k], [n, m, k]);
-    assert_eq!(listing.stated, listing.counted());
-    let values: Vec<u8> = (0..places(n)).map(|p| listing.value(p)).collect();
-    assert_eq!(values, *table);
-    assert!(listing.products.iter().map(|product| product.term()).is_sorted_by(|a, b| a < b));
-    assert!(mixed_sets(n, k).any(|mixed| mixed == listing.mixed));
-    assert!(listing.follows_its_polarities());
 }
 
 /// Both calls on one text: a table of 256 bytes, and an output buffer that is long enough.

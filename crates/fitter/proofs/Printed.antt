@@ -11,6 +11,9 @@ use Rattle.listings.specs.Parts.{bytes}
 use Rattle.listings.specs.Listing.{line, tabbed, decimal}
 use Rattle.listings.proofs.Lengths.{digitsOf-le, length-numbers}
 use Rattle.table_texts.specs.Read.{reading}
+use Rattle.table_texts.proofs.Length.{accepted-text-first}
+use Rattle.table_texts.proofs.read.Accepted.{reading-accepted}
+use Rattle.listing_texts.proofs.Length.{passes-first}
 use Rattle.text.specs.Print.{judged}
 use Rattle.text.proofs.print.Refusals.{refused-line-le}
 use Rattle.writing.specs.Put.{Put}
@@ -41,10 +44,14 @@ print-holds text listing texts listings held r count et el c put =
     let front = put-front (omega (arith, answer-within r, length-replicate {A = ℕ} 18 0)) put in
     let past = drop-zeros (length (printed text listing)) 18 within in
     let filled : held ≡ printed text listing ++ replicate (18 - length (printed text listing)) 0 = front ∙ rw line (ap (λ (v : List ℕ). printed text listing ++ v) past) in
+    let shown : take count held ≡ printed text listing = rw (ec, filled) (take-append-seam (printed text listing) _) in
     record {
       counted = ec;
       filled = filled;
       within = omega (arith, ec, ap length filled, length-append (printed text listing) (replicate (18 - length (printed text listing)) 0));
-      shown = rw (ec, filled) (take-append-seam (printed text listing) _);
+      shown = shown;
+      whole = λ z table e p.
+          shown
+          ∙ rw (accepted-text-first text z table e, passes-first z listing (reading-accepted text z table e .sized) p);
       meaning = check-words (judged text) (judged listing) (checked (reading (judged text)) (judged listing)) refl;
     }

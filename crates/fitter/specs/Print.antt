@@ -6,7 +6,9 @@ use Prim.Native.Nat.{ℕ, _-_, _≤_}
 use lib.ListN.{length, take, replicate}
 use Rattle.listings.specs.Parts.{bytes}
 use Rattle.listings.specs.Listing.{line, decimal}
-use Rattle.table_texts.specs.Read.{reading}
+use Rattle.table_texts.specs.declared.sizes.Sizes.{Sizes}
+use Rattle.table_texts.specs.Read.{given, reading}
+use Rattle.listing_texts.specs.Listings.{Passes}
 use Rattle.text.specs.Print.{judged, refusedLine}
 use Rattle.fitter.specs.declared.check.Checked.{Checked}
 use Rattle.fitter.specs.declared.check.Checked.the-variants.{Same, Differs, NotOfClass, Refused}
@@ -29,4 +31,6 @@ pub record Print (text listing held : List ℕ) (count : ℕ) : Type 0 where
   pub filled : held ≡ printed text listing ++ replicate (18 - length (printed text listing)) 0
   pub within : count ≤ length held
   pub shown : take count held ≡ printed text listing
+  -- the first 8,192 bytes of a text that is accepted and of a listing that passes are the whole of them
+  pub whole : (z : Sizes) (table : List ℕ) → reading text ≡ given z table → Passes z listing → take count held ≡ answerLine (checked (reading text) listing)
   pub meaning : Check (judged text) (judged listing) (checked (reading (judged text)) (judged listing))

@@ -1,3 +1,4 @@
 pub mod FormRead
 pub mod Exactness
+pub mod Length
 pub mod ReadBack

@@ -120,18 +120,16 @@ length-formLine xs = omega (arith, length-append (tabbed (map decimal xs)) (10 �
 length-three : (a b d : List ℕ) → length (a ++ b ++ d) ≡ length a + length b + length d
 length-three a b d = omega (arith, length-append (a ++ b) d, length-append a b)
 
+pub length-listingWith : (numbers : List ℕ) (n m : ℕ) (w c : ℕ → ℕ)
+    → length (listingWith numbers n m w c) ≡ 5 + length numbers + digitsOf numbers + products n c * (5 + n + 1 + m + 1) + 4
+unfolding listingWith products line tabbed bytes
+length-listingWith numbers n m w c =
+    length-three (formLine numbers) (termLines n m w c (2 ^ n)) (line (bytes "end") [])
+    ∙ rw (length-formLine numbers, length-termLines n m w c (2 ^ n))
+
 pub length-listing : (n m k : ℕ) (e : Expansion) → length (listing n m k e) ≡ listingLength n m k e
-unfolding listing listingWith listingLength products line tabbed bytes
-length-listing n m k e = length-three (formLine (numbersOf n m k e)) (termLines n m w c (2 ^ n)) (line (bytes "end") []) ∙ counts where
-  w : ℕ → ℕ
-  w = polarity n (e .mixed) (e .fixed) (at (e .blocks))
-
-  c : ℕ → ℕ
-  c = at (e .coefficients)
-
-  counts : length (formLine (numbersOf n m k e)) + length (termLines n m w c (2 ^ n)) + 4
-      ≡ 12 + digitsOf (numbersOf n m k e) + sumBelow (2 ^ n) (λ t. counted (c t) 1) * (5 + n + 1 + m + 1) + 4
-  counts = rw (length-formLine (numbersOf n m k e), length-termLines n m w c (2 ^ n))
+unfolding listing listingLength
+length-listing n m k e = length-listingWith (numbersOf n m k e) n m (polarity n (e .mixed) (e .fixed) (at (e .blocks))) (at (e .coefficients))
 
 -- ---- the listing of a record, from the counts that it states
 

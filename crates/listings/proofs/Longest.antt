@@ -27,7 +27,7 @@ pub digitCount-one : (x : ℕ) → x < 10 → digitCount x ≡ 1
 unfolding digitCount
 digitCount-one x h = rw (lt-ltb x 10 h)
 
-digitCount-three : (x : ℕ) → x < 1000 → digitCount x ≤ 3
+pub digitCount-three : (x : ℕ) → x < 1000 → digitCount x ≤ 3
 unfolding digitCount
 digitCount-three x h = go (ltb x 10) (ltb x 100) where
   go : (a b : Bool) → cond a 1 (cond b 2 (cond (ltb x 1000) 3 4)) ≤ 3

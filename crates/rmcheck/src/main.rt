@@ -1,6 +1,6 @@
 // The program `rmcheck TABLE LISTING`: it reads the first 8,192 bytes of each of two files and writes one line, the fitter's answer. The contract
 // of `print_check` states that line for every pair of inputs (`Print` in crates/fitter/specs/Print.antt). A missing argument, or a file that cannot
-// be opened, is told on standard error, with the usage.
+// be read, is told on standard error, with the usage.
 use fitter::print::print_check;
 use libc::STDERR_FILENO;
 use libc::STDOUT_FILENO;
@@ -9,9 +9,9 @@ ghost use mathlib.Core.Path.{_≡_};
 ghost use Prim.Native.Nat.{_≤_};
 ghost use lib.ListN.{length};
 
-// What was read of a file: whether it could be opened, and how many bytes.
+// What was read of a file: whether it could be read, and how many bytes.
 struct Source {
-    opened: bool,
+    readable: bool,
     length: usize,
 }
 
@@ -31,11 +31,25 @@ fn read_argument(i: usize, bytes: &mut [u8; Printed::INPUT_BYTES]) -> Source
         return no_source();
     }
     let length = io::read_full(file, bytes);
+    if unreadable(file, length) {
+        os::fail(&path[..named]);
+        libc::close(file);
+        return no_source();
+    }
     libc::close(file);
     Source {
-        opened: true,
+        readable: true,
         length,
     }
+}
+
+// Whether reading failed where no byte came, as it does of a folder.
+fn unreadable(file: i32, length: usize) -> bool {
+    if length != 0 {
+        return false;
+    }
+    let mut next = [0u8; 1];
+    libc::read(file, &mut next) < 0
 }
 
 // Says how the program is used; nothing was read.
@@ -44,7 +58,7 @@ fn no_source() -> Source
 {
     io::write_all(STDERR_FILENO, b"usage: rmcheck TABLE LISTING\n");
     Source {
-        opened: false,
+        readable: false,
         length: 0,
     }
 }
@@ -53,11 +67,11 @@ fn main() {
     let mut text = [0u8; Printed::INPUT_BYTES];
     let mut listing = [0u8; Printed::INPUT_BYTES];
     let first = read_argument(1, &mut text);
-    if !first.opened {
+    if !first.readable {
         return;
     }
     let second = read_argument(2, &mut listing);
-    if !second.opened {
+    if !second.readable {
         return;
     }
     let of_text = first.length;

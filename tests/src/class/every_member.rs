@@ -1,6 +1,6 @@
 //! The least expansion over every member of the class, with the coefficients found by elimination.
 
-use super::{Expansion, Member, fixed_polarities, mixed_sets};
+use super::{Expansion, Member, fixed_polarities, is_of_a_member, mixed_sets};
 use crate::evaluator::{places, term_true};
 
 /// A member, and for each term the points whose bytes sum to its coefficient.
@@ -51,14 +51,18 @@ fn least_blocks(tied: Vec<Expansion>) -> Expansion {
 }
 
 fn members(n: usize, k: usize) -> Vec<Member> {
-    let mut all = Vec::new();
-    for mixed in mixed_sets(n, k) {
-        for fixed in fixed_polarities(n, mixed) {
-            let vectors = polarity_vectors(places(n - k), places(k));
-            all.extend(vectors.into_iter().map(|blocks| Member { mixed, fixed, blocks }));
-        }
+    let of_set = |mixed| fixed_polarities(n, mixed).map(move |fixed| (mixed, fixed));
+    let pairs = mixed_sets(n, k).flat_map(of_set);
+    pairs.flat_map(|(mixed, fixed)| members_with(n, k, mixed, fixed)).collect()
+}
+
+/// Every member with this M and i, none where no member has them (n up to 4).
+pub fn members_with(n: usize, k: usize, mixed: usize, fixed: usize) -> Vec<Member> {
+    if !is_of_a_member(n, k, mixed, fixed) {
+        return Vec::new();
     }
-    all
+    let vectors = polarity_vectors(places(n - k), places(k));
+    vectors.into_iter().map(|blocks| Member { mixed, fixed, blocks }).collect()
 }
 
 /// Every list of `length` numbers below `limit`.

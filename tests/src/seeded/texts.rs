@@ -3,6 +3,7 @@
 use super::Seeded;
 use super::tables::any_table;
 use crate::text::Design;
+use std::ops::Range;
 
 /// A design of at most this many inputs, and its text.
 pub fn sound_text(seeded: &mut Seeded, most_inputs: usize) -> (Design, Vec<u8>) {
@@ -24,6 +25,14 @@ pub fn damaged_text(seeded: &mut Seeded, text: &[u8]) -> Vec<u8> {
     damaged
 }
 
+/// A text with a line dropped, doubled or moved, cut, with bytes after it, or with carriage returns.
+pub fn with_other_lines(seeded: &mut Seeded, text: &[u8]) -> Vec<u8> {
+    let mut changed = text.to_vec();
+    let damage = *seeded.pick(&DAMAGES[OF_LINES]);
+    damage(seeded, &mut changed);
+    changed
+}
+
 type Damage = fn(&mut Seeded, &mut Vec<u8>);
 
 const DAMAGES: [Damage; 12] = [
@@ -40,6 +49,9 @@ const DAMAGES: [Damage; 12] = [
     |seeded, text| edit_lines(seeded, text, move_line),
     |seeded, text| edit_lines(seeded, text, |seeded, lines| change_field(seeded, lines)),
 ];
+
+/// Where the damages of whole lines and of the end stand.
+const OF_LINES: Range<usize> = 5..11;
 
 /// Bytes that stand near the grammar: its own characters, their neighbours, and bytes that no text has.
 pub const TELLING_BYTES: &[u8] = b"\x00\t\n\x0b\r ,-./0123456789:ABEOTabelnotx~\x7f\x80\xff";

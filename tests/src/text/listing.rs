@@ -3,8 +3,7 @@
 use super::Design;
 use super::fields::{Line, Lines, outputs_field, read_digit, read_number, read_outputs};
 use crate::class::{Cost, Expansion};
-use crate::evaluator::{complemented, holds, input_value, inputs, number_of, places};
-use std::collections::BTreeMap;
+use crate::evaluator::{Refusal, complemented, holds, input_value, inputs, number_of, places};
 
 /// `1` for a plain literal of xi, `0` for a complemented one.
 fn literal_character(polarity: usize, i: usize) -> u8 {
@@ -12,25 +11,9 @@ fn literal_character(polarity: usize, i: usize) -> u8 {
 }
 
 /// Leftmost xn, rightmost x1; `-` where the term has no literal.
-fn cube_field(n: usize, t: usize, polarity: usize) -> String {
+pub fn cube_field(n: usize, t: usize, polarity: usize) -> String {
     let character = |i| if holds(t, i) { literal_character(polarity, i) } else { b'-' };
     inputs(n).rev().map(|i| char::from(character(i))).collect()
-}
-
-/// The listing of an expansion of a design.
-pub fn listing(design: &Design, expansion: &Expansion) -> Vec<u8> {
-    let Design { n, m, k, .. } = *design;
-    let Expansion { member, coefficients, cost } = expansion;
-    let (mixed, fixed) = (member.mixed, member.fixed);
-    let first =
-        format!("form\t{n}\t{m}\t{k}\t{mixed}\t{fixed}\t{}\t{}\n", cost.products, cost.literals);
-    let products = (0..places(n)).filter(|&t| coefficients[t] != 0);
-    let term = |t: usize| {
-        let cube = cube_field(n, t, member.polarity(n, t));
-        format!("term\t{cube}\t{}\n", outputs_field(m, coefficients[t]))
-    };
-    let terms: String = products.map(term).collect();
-    format!("{first}{terms}end\n").into_bytes()
 }
 
 /// A `term` line.
@@ -80,21 +63,61 @@ pub struct Listing {
 }
 
 impl Listing {
-    /// Reads a listing; nothing where a line breaks the grammar.
-    pub fn read(bytes: &[u8]) -> Option<Self> {
-        let mut lines = Lines::new(bytes);
-        let mut listing = Listing::read_first(&lines.next().ok()?)?;
-        loop {
-            let line = lines.next().ok()?;
-            match line.fields[..] {
-                [b"end"] => break,
-                [b"term", cube, outputs] => listing.products.push(listing.product(cube, outputs)?),
-                _ => return None,
-            }
-        }
-        lines.rest.is_empty().then_some(listing)
+    /// The listing of an expansion of a design.
+    pub fn of(design: &Design, expansion: &Expansion) -> Self {
+        let Design { n, m, k, .. } = *design;
+        let Expansion { member, coefficients, cost } = expansion;
+        let product = |t: usize| Product {
+            cube: cube_field(n, t, member.polarity(n, t)).into_bytes(),
+            outputs: coefficients[t],
+        };
+        let products = (0..places(n)).filter(|&t| coefficients[t] != 0).map(product).collect();
+        let (mixed, fixed) = (member.mixed, member.fixed);
+        Listing { n, m, k, mixed, fixed, stated: *cost, products }
     }
 
+    /// The first line, with its byte 10.
+    pub fn first_line(&self) -> String {
+        let Listing { n, m, k, mixed, fixed, stated, .. } = self;
+        let counts = format!("{}\t{}", stated.products, stated.literals);
+        format!("form\t{n}\t{m}\t{k}\t{mixed}\t{fixed}\t{counts}\n")
+    }
+
+    /// All lines.
+    pub fn bytes(&self) -> Vec<u8> {
+        let term = |product: &Product| {
+            let outputs = outputs_field(self.m, product.outputs);
+            [b"term\t", &product.cube[..], b"\t", outputs.as_bytes(), b"\n"].concat()
+        };
+        let terms: Vec<u8> = self.products.iter().flat_map(term).collect();
+        [self.first_line().as_bytes(), &terms, b"end\n"].concat()
+    }
+
+    /// Reads a listing beside the design of its table text. 12, line 1, where n, m or k is not the
+    /// design's, before any later line is read; 11 at the first line that is bad otherwise.
+    pub fn read(design: &Design, bytes: &[u8]) -> Result<Self, Refusal> {
+        let mut lines = Lines::new(bytes);
+        let first = next_line(&mut lines)?;
+        let mut listing = Listing::read_first(&first).ok_or(first.refusal(11))?;
+        if [listing.n, listing.m, listing.k] != [design.n, design.m, design.k] {
+            return Err(first.refusal(12));
+        }
+        loop {
+            let line = next_line(&mut lines)?;
+            if line.fields == [b"end"] {
+                break;
+            }
+            let product = listing.read_term(&line).ok_or(line.refusal(11))?;
+            listing.products.push(product);
+        }
+        if lines.rest.is_empty() {
+            Ok(listing)
+        } else {
+            Err(Refusal { number: 11, line: lines.expected })
+        }
+    }
+
+    /// `form`, n, m, k, M, i, products, literals.
     fn read_first(line: &Line) -> Option<Self> {
         let [b"form", numbers @ ..] = &line.fields[..] else { return None };
         let [n, m, k, mixed, fixed, products, literals] = numbers else { return None };
@@ -110,31 +133,19 @@ impl Listing {
         })
     }
 
-    fn product(&self, cube: &[u8], outputs: &[u8]) -> Option<Product> {
+    /// `term`, cube, outputs, with a term above the one before.
+    fn read_term(&self, line: &Line) -> Option<Product> {
+        let [b"term", cube, outputs] = line.fields[..] else { return None };
         let sound = cube.len() == self.n && cube.iter().all(|byte| b"01-".contains(byte));
         let outputs = read_outputs(outputs, self.m)?;
-        sound.then(|| Product { cube: cube.to_vec(), outputs })
+        let product = sound.then(|| Product { cube: cube.to_vec(), outputs })?;
+        let above = self.products.last().is_none_or(|last| product.term() > last.term());
+        above.then_some(product)
     }
 
     /// The exclusive OR of the outputs on the `term` lines whose cube is true at p.
     pub fn value(&self, p: usize) -> u8 {
         self.products.iter().filter(|product| product.true_at(p)).fold(0, |sum, x| sum ^ x.outputs)
-    }
-
-    /// Whether the cubes are those of a member with this M and i: outside M each literal follows i, and
-    /// in M the literals of an input are the same in all cubes of a block.
-    pub fn follows_its_polarities(&self) -> bool {
-        let mut of_block = BTreeMap::new();
-        let mut follows = |product: &Product, i| match product.character(i) {
-            b'-' => true,
-            literal if holds(self.mixed, i) => {
-                let block =
-                    number_of(self.n, |i| holds(product.term(), i) && !holds(self.mixed, i));
-                *of_block.entry((block, i)).or_insert(literal) == literal
-            }
-            literal => literal == literal_character(self.fixed, i),
-        };
-        self.products.iter().all(|product| inputs(self.n).all(|i| follows(product, i)))
     }
 
     /// The counts that the `term` lines have.
@@ -144,36 +155,38 @@ impl Listing {
     }
 }
 
+/// The next line of a listing. 11 where the listing has stopped or the line's byte 10 is missing.
+fn next_line<'a>(lines: &mut Lines<'a>) -> Result<Line<'a>, Refusal> {
+    lines.next().map_err(|Refusal { line, .. }| Refusal { number: 11, line })
+}
+
 #[cfg(test)]
 mod tests {
     use super::*;
     use crate::marked::bytes;
-
-    /// A listing of two inputs and outputs with this first line and these terms.
-    fn read(first: &str, terms: &str) -> Option<Listing> {
-        Listing::read(&bytes(format!("form 2 2 {first}\n{terms}end\n").as_bytes()))
-    }
+    use crate::seeded::Seeded;
+    use crate::seeded::listings::any_expansion;
+    use crate::seeded::texts::sound_text;
 
     #[test]
     fn a_listing_is_read_from_its_lines() {
-        let listing = read("1 1 2 2 2", "term -- 10\nterm -0 11\n").expect("a sound listing");
+        let design = Design { n: 2, m: 2, k: 1, table: vec![0; 4] };
+        let written = bytes(b"form 2 2 1 1 2 2 2\nterm -- 10\nterm -0 11\nend\n");
+        let listing = Listing::read(&design, &written).expect("a sound listing");
         assert_eq!((0..4).map(|p| listing.value(p)).collect::<Vec<u8>>(), [2, 1, 2, 1]);
         assert_eq!(listing.counted(), Cost { products: 2, literals: 1 });
         assert_eq!(listing.stated, Cost { products: 2, literals: 2 });
-        for terms in ["term -- 00\n", "term - 10\n", "term --  10\n", "end\n", "term -- 1\n"] {
-            assert_eq!(read("1 1 2 2 2", terms), None, "{terms}");
-        }
     }
 
+    /// What is read is what was written: M, i, the counts, the cubes and the coefficients.
     #[test]
-    fn cubes_follow_the_polarities_or_not() {
-        let follows =
-            |first, terms| read(first, terms).map(|listing| listing.follows_its_polarities());
-        // x1 is mixed, x2 complemented.
-        assert_eq!(follows("1 1 2 2 3", "term -1 10\nterm 00 11\n"), Some(true));
-        assert_eq!(follows("1 1 2 2 3", "term -1 10\nterm 10 11\n"), Some(false));
-        // Both inputs are mixed, so all terms are of one block.
-        assert_eq!(follows("2 3 0 2 3", "term -1 10\nterm 01 11\n"), Some(true));
-        assert_eq!(follows("2 3 0 2 3", "term -1 10\nterm 00 11\n"), Some(false));
+    fn a_listing_is_read_as_it_was_written() {
+        let mut seeded = Seeded::new(3);
+        for _ in 0..400 {
+            let (design, _) = sound_text(&mut seeded, 5);
+            let listing = Listing::of(&design, &any_expansion(&mut seeded, &design));
+            assert_eq!(listing.stated, listing.counted());
+            assert_eq!(Listing::read(&design, &listing.bytes()), Ok(listing));
+        }
     }
 }

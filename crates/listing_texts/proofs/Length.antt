@@ -1,0 +1,49 @@
+-- A listing that passes has at most 5,922 bytes (`passes-length`), so that its first 8,192 bytes are the whole of it (`passes-first`).
+use mathlib.Core.List.{List, [], _∷_}
+use mathlib.Core.Path.{_≡_}
+use Prim.Native.Nat.{ℕ, _+_, _*_, _≤_, _<_}
+use native.Mathlib.Nat.{mul-le-mul}
+use native.Mathlib.Omega.{arith}
+use lib.ListN.{length, take}
+use lib.Seq.{take-all}
+use Rattle.numbers.specs.Refusals.{Sized}
+use Rattle.numbers.proofs.Shifts.{points-le}
+use Rattle.expansions.specs.Costs.{products, literals}
+use Rattle.expansions.proofs.Costs.{products-le}
+use Rattle.listings.specs.inner.Lengths.{digitsOf}
+use Rattle.listings.proofs.Characters.{digitCount-in}
+use Rattle.listings.proofs.Lengths.{length-listingWith}
+use Rattle.listings.proofs.Longest.{digitCount-one, digitCount-three}
+use Rattle.table_texts.specs.declared.sizes.Sizes.{Sizes}
+use Rattle.listing_texts.specs.Listings.{termListing, Passes}
+
+module _ (z : Sizes) (sized : Sized (z .n) (z .m) (z .k)) (M i : ℕ) (w c : ℕ → ℕ) where
+  few : products (z .n) c ≤ 256
+  few = omega (arith, products-le (z .n) c, points-le (z .n) (sized .inputs .1))
+
+  digits-le : digitsOf (z .n ∷ z .m ∷ z .k ∷ M ∷ i ∷ products (z .n) c ∷ literals (z .n) c ∷ []) ≤ 18
+  unfolding digitsOf
+  digits-le =
+      omega (
+        arith,
+        digitCount-one (z .n) (omega (arith, sized .inputs .1)),
+        digitCount-one (z .m) (omega (arith, sized .outputs .1)),
+        digitCount-one (z .k) (omega (arith, sized .mixed .0)),
+        digitCount-in M,
+        digitCount-in i,
+        digitCount-three (products (z .n) c) (omega (arith, few)),
+        digitCount-in (literals (z .n) c),
+      )
+
+  listing-le : length (termListing z M i w c) ≤ 5922
+  unfolding termListing
+  listing-le =
+      let terms : products (z .n) c * (5 + z .n + 1 + z .m + 1) ≤ 256 * 23 = mul-le-mul {n₁ = products (z .n) c} {m₁ = 5 + z .n + 1 + z .m + 1} {n₂ = 256} {m₂ = 23} few (omega (arith, sized .inputs .1, sized .outputs .1)) in
+      rw (length-listingWith _ (z .n) (z .m) w c) (omega (arith, digits-le))
+
+pub passes-length : (z : Sizes) (s : List ℕ) → Sized (z .n) (z .m) (z .k) → Passes z s → length s ≤ 5922
+passes-length z s sized p = rw (p .characters) (listing-le z sized (p .mixed) (p .fixed) (p .polarity) (p .coefficient))
+
+-- each file is judged by its first 8,192 bytes
+pub passes-first : (z : Sizes) (s : List ℕ) → Sized (z .n) (z .m) (z .k) → Passes z s → take 8192 s ≡ s
+passes-first z s sized p = take-all 8192 s (omega (arith, passes-length z s sized p))

@@ -1,0 +1,124 @@
+//! The fitter's check, as document 02's W-201 gives it: a listing is judged beside its table text.
+
+use crate::calls::CheckAnswer;
+use crate::class::{Member, is_of_a_member};
+use crate::evaluator::{Refusal, places};
+use crate::text::listing::{Listing, Product, cube_field};
+use crate::text::{read, refused};
+use std::collections::BTreeMap;
+
+/// What is said of a listing that is not refused.
+#[derive(Clone, Copy, Debug, PartialEq, Eq)]
+pub enum Verdict {
+    Same,
+    /// With the lowest point that differs.
+    Differs {
+        point: usize,
+    },
+    NotOfClass,
+}
+
+/// Judges a listing beside its table text: the table text, the lines of the listing, the counts, the
+/// class, the points.
+pub fn check(text: &[u8], listing: &[u8]) -> Result<Verdict, Refusal> {
+    let design = read(text)?;
+    let listing = Listing::read(&design, listing)?;
+    if listing.stated != listing.counted() {
+        return Err(Refusal { number: 12, line: 1 });
+    }
+    if !of_the_class(&listing) {
+        return Ok(Verdict::NotOfClass);
+    }
+    let differs = (0..places(design.n)).find(|&p| listing.value(p) != design.table[p]);
+    Ok(differs.map_or(Verdict::Same, |point| Verdict::Differs { point }))
+}
+
+/// Whether some member with the listing's M and i prints its cubes. A member chooses the polarity of a
+/// block freely of the other blocks, so every polarity is tried for each block by itself.
+fn of_the_class(listing: &Listing) -> bool {
+    let Listing { n, k, mixed, fixed, .. } = *listing;
+    if !is_of_a_member(n, k, mixed, fixed) {
+        return false;
+    }
+    let with = |phi| Member { mixed, fixed, blocks: vec![phi; places(n - k)] };
+    let members: Vec<Member> = (0..places(k)).map(with).collect();
+    let mut blocks: BTreeMap<usize, Vec<&Product>> = BTreeMap::new();
+    for product in &listing.products {
+        blocks.entry(members[0].block(n, product.term())).or_default().push(product);
+    }
+    blocks.values().all(|block| {
+        members.iter().any(|member| block.iter().all(|product| prints(n, member, product)))
+    })
+}
+
+/// Whether the member prints the cube of this product for its term.
+fn prints(n: usize, member: &Member, product: &Product) -> bool {
+    let t = product.term();
+    cube_field(n, t, member.polarity(n, t)).as_bytes() == product.cube
+}
+
+/// The numbers of the call's answer.
+pub fn answer(judged: Result<Verdict, Refusal>) -> CheckAnswer {
+    match judged {
+        Ok(Verdict::Same) => [0, 0, 1, 0],
+        Ok(Verdict::Differs { point }) => [0, 0, 2, point as u64],
+        Ok(Verdict::NotOfClass) => [0, 0, 3, 0],
+        Err(Refusal { number, line }) => [number, line, 0, 0],
+    }
+}
+
+/// The line that the program `rmcheck` writes for a table text and a listing.
+pub fn printed(text: &[u8], listing: &[u8]) -> Vec<u8> {
+    match check(text, listing) {
+        Ok(Verdict::Same) => b"same\n".to_vec(),
+        Ok(Verdict::Differs { point }) => format!("differs\t{point}\n").into_bytes(),
+        Ok(Verdict::NotOfClass) => b"not of the class\n".to_vec(),
+        Err(refusal) => refused(refusal),
+    }
+}
+
+#[cfg(test)]
+mod tests {
+    use super::*;
+    use crate::class::{Expansion, members_with};
+    use crate::seeded::Seeded;
+    use crate::seeded::listings::{any_expansion, change_cube, change_polarities, true_counts};
+    use crate::seeded::texts::sound_text;
+    use crate::text::Design;
+
+    /// Document 02's sentences, said over every member with the listing's M and i: the cubes are those
+    /// of no member, or some member that gives the table prints just those lines.
+    fn said_over_members(design: &Design, listing: &Listing) -> [bool; 2] {
+        let Listing { n, k, mixed, fixed, .. } = *listing;
+        let members = members_with(n, k, mixed, fixed);
+        let cubes =
+            |member: &Member| listing.products.iter().all(|product| prints(n, member, product));
+        let none = !members.iter().any(cubes);
+        let lines =
+            |member: Member| Listing::of(design, &Expansion::giving(n, member, &design.table));
+        let same = members.into_iter().any(|member| lines(member).bytes() == listing.bytes());
+        [none, same]
+    }
+
+    #[test]
+    fn verdicts_are_what_the_members_say() {
+        let mut seeded = Seeded::new(4);
+        let mut said = [0; 3];
+        for round in 0..2000 {
+            let (design, text) = sound_text(&mut seeded, 3);
+            let mut listing = Listing::of(&design, &any_expansion(&mut seeded, &design));
+            match round % 4 {
+                0 => {}
+                1 => change_polarities(&mut seeded, &mut listing),
+                _ => change_cube(&mut seeded, &mut listing),
+            }
+            true_counts(&mut listing);
+            let [none, same] = said_over_members(&design, &listing);
+            let Ok(verdict) = check(&text, &listing.bytes()) else { continue };
+            assert_eq!(verdict == Verdict::NotOfClass, none, "{listing:?}");
+            assert_eq!(verdict == Verdict::Same, same, "{design:?} {listing:?}");
+            said[answer(Ok(verdict))[2] as usize - 1] += 1;
+        }
+        assert!(said.iter().all(|&times| times > 100), "{said:?}");
+    }
+}

@@ -1,0 +1,244 @@
+//! Table texts beside listings, with the answer of the fitter's check written down by hand: each rule of
+//! refusals 11 and 12 and their order, the class, and the points. They are written as the texts are, with a
+//! space for each tab.
+
+use super::EXAMPLE;
+use crate::calls::CheckAnswer;
+
+/// A table text, a listing, and the numbers of the answer.
+pub type MarkedPair = (&'static [u8], &'static [u8], CheckAnswer);
+
+const SAME: CheckAnswer = [0, 0, 1, 0];
+const NOT_OF_CLASS: CheckAnswer = [0, 0, 3, 0];
+
+const fn differs(point: u64) -> CheckAnswer {
+    [0, 0, 2, point]
+}
+
+const fn refused(number: u64, line: u64) -> CheckAnswer {
+    [number, line, 0, 0]
+}
+
+/// The listing of document 01's example.
+pub const EXAMPLE_LISTING: &[u8] = b"form 2 2 1 1 2 2 2\nterm -- 10\nterm 00 11\nend\n";
+
+/// Tables of two inputs and one output: all zero, x2, and all points but point 2, each with a k.
+const ZERO_0: &[u8] = b"table 2 1 0\nend\n";
+const ZERO_1: &[u8] = b"table 2 1 1\nend\n";
+const ZERO_2: &[u8] = b"table 2 1 2\nend\n";
+const X2_0: &[u8] = b"table 2 1 0\non 2 1\non 3 1\nend\n";
+const BUT_2_0: &[u8] = b"table 2 1 0\non 0 1\non 1 1\non 3 1\nend\n";
+const BUT_2_1: &[u8] = b"table 2 1 1\non 0 1\non 1 1\non 3 1\nend\n";
+const BUT_2_2: &[u8] = b"table 2 1 2\non 0 1\non 1 1\non 3 1\nend\n";
+
+/// Pairs that pass every line: same, differs, or not of the class.
+pub const JUDGED: [MarkedPair; 49] = [
+    (EXAMPLE, EXAMPLE_LISTING, SAME),
+    // Cheap or not: dearer members, with M = 1 and with M = 2, each block with a polarity of its own.
+    (EXAMPLE, b"form 2 2 1 1 0 3 3\nterm -- 01\nterm -1 11\nterm 10 11\nend\n", SAME),
+    (EXAMPLE, b"form 2 2 1 1 0 4 4\nterm -- 01\nterm -1 11\nterm 1- 11\nterm 11 11\nend\n", SAME),
+    (EXAMPLE, b"form 2 2 1 2 1 2 2\nterm -- 10\nterm 00 11\nend\n", SAME),
+    (EXAMPLE, b"form 2 2 1 2 0 3 3\nterm -- 10\nterm 0- 11\nterm 01 11\nend\n", SAME),
+    // A `-` in the table text is k = 1.
+    (b"table 2 1 -\nend\n", b"form 2 1 1 1 0 0 0\nend\n", SAME),
+    // Bits of i that no cube shows are free, and so is every M of k inputs.
+    (ZERO_0, b"form 2 1 0 0 0 0 0\nend\n", SAME),
+    (ZERO_0, b"form 2 1 0 0 3 0 0\nend\n", SAME),
+    (ZERO_1, b"form 2 1 1 1 2 0 0\nend\n", SAME),
+    (ZERO_1, b"form 2 1 1 2 0 0 0\nend\n", SAME),
+    (ZERO_1, b"form 2 1 1 2 1 0 0\nend\n", SAME),
+    (ZERO_2, b"form 2 1 2 3 0 0 0\nend\n", SAME),
+    (X2_0, b"form 2 1 0 0 0 1 1\nterm 1- 1\nend\n", SAME),
+    (X2_0, b"form 2 1 0 0 1 1 1\nterm 1- 1\nend\n", SAME),
+    // Only the cubes of one block must agree. With x1 mixed these two are of two blocks; with both inputs
+    // mixed they are of one, and with none i decides.
+    (BUT_2_1, b"form 2 1 1 1 2 2 3\nterm -1 1\nterm 00 1\nend\n", SAME),
+    (BUT_2_2, b"form 2 1 2 3 0 2 3\nterm -1 1\nterm 00 1\nend\n", NOT_OF_CLASS),
+    (BUT_2_0, b"form 2 1 0 0 2 2 3\nterm -1 1\nterm 00 1\nend\n", NOT_OF_CLASS),
+    (BUT_2_1, b"form 2 1 1 2 0 2 3\nterm -1 1\nterm 00 1\nend\n", NOT_OF_CLASS),
+    // In one block, cubes that show different inputs agree.
+    (
+        b"table 2 1 2\non 0 1\non 3 1\nend\n",
+        b"form 2 1 2 3 0 2 2\nterm -0 1\nterm 1- 1\nend\n",
+        SAME,
+    ),
+    (
+        b"table 2 1 2\non 1 1\non 3 1\nend\n",
+        b"form 2 1 2 3 0 3 3\nterm -- 1\nterm -0 1\nterm 10 1\nend\n",
+        differs(2),
+    ),
+    // A literal outside M that does not follow i.
+    (EXAMPLE, b"form 2 2 1 1 0 2 2\nterm -- 10\nterm 00 11\nend\n", NOT_OF_CLASS),
+    (EXAMPLE, b"form 2 2 1 2 0 2 2\nterm -- 10\nterm 00 11\nend\n", NOT_OF_CLASS),
+    (X2_0, b"form 2 1 0 0 2 1 1\nterm 1- 1\nend\n", NOT_OF_CLASS),
+    (X2_0, b"form 2 1 0 0 3 1 1\nterm 1- 1\nend\n", NOT_OF_CLASS),
+    // M has another number of inputs than k, or an input above xn.
+    (EXAMPLE, b"form 2 2 1 0 3 2 2\nterm -- 10\nterm 00 11\nend\n", NOT_OF_CLASS),
+    (EXAMPLE, b"form 2 2 1 3 0 2 2\nterm -- 10\nterm 00 11\nend\n", NOT_OF_CLASS),
+    (ZERO_0, b"form 2 1 0 1 0 0 0\nend\n", NOT_OF_CLASS),
+    (ZERO_1, b"form 2 1 1 0 0 0 0\nend\n", NOT_OF_CLASS),
+    (ZERO_1, b"form 2 1 1 3 0 0 0\nend\n", NOT_OF_CLASS),
+    (ZERO_1, b"form 2 1 1 4 0 0 0\nend\n", NOT_OF_CLASS),
+    (ZERO_1, b"form 2 1 1 5 0 0 0\nend\n", NOT_OF_CLASS),
+    (ZERO_1, b"form 2 1 1 256 0 0 0\nend\n", NOT_OF_CLASS),
+    (ZERO_1, b"form 2 1 1 9999 0 0 0\nend\n", NOT_OF_CLASS),
+    (ZERO_2, b"form 2 1 2 1 0 0 0\nend\n", NOT_OF_CLASS),
+    (ZERO_2, b"form 2 1 2 5 0 0 0\nend\n", NOT_OF_CLASS),
+    // i has a bit of M, or one above xn.
+    (ZERO_0, b"form 2 1 0 0 4 0 0\nend\n", NOT_OF_CLASS),
+    (ZERO_0, b"form 2 1 0 0 256 0 0\nend\n", NOT_OF_CLASS),
+    (ZERO_1, b"form 2 1 1 1 1 0 0\nend\n", NOT_OF_CLASS),
+    (ZERO_1, b"form 2 1 1 1 3 0 0\nend\n", NOT_OF_CLASS),
+    (ZERO_1, b"form 2 1 1 1 9999 0 0\nend\n", NOT_OF_CLASS),
+    (EXAMPLE, b"form 2 2 1 1 3 2 2\nterm -- 10\nterm 00 11\nend\n", NOT_OF_CLASS),
+    // The class is judged before the points: at point 1, and at point 2, these differ too.
+    (BUT_2_2, b"form 2 1 2 3 0 2 3\nterm -0 1\nterm 11 1\nend\n", NOT_OF_CLASS),
+    (X2_0, b"form 2 1 0 1 0 0 0\nend\n", NOT_OF_CLASS),
+    // The lowest of the points that differ, in any output.
+    (EXAMPLE, b"form 2 2 1 1 2 2 2\nterm -- 10\nterm 00 10\nend\n", differs(0)),
+    (X2_0, b"form 2 1 0 0 0 0 0\nend\n", differs(2)),
+    (X2_0, b"form 2 1 0 0 0 1 2\nterm 11 1\nend\n", differs(2)),
+    (X2_0, b"form 2 1 0 0 1 2 3\nterm 1- 1\nterm 10 1\nend\n", differs(2)),
+    (b"table 2 2 0\non 1 10\non 3 11\nend\n", b"form 2 2 0 0 0 1 1\nterm -1 10\nend\n", differs(3)),
+    (b"table 8 1 3\non 255 1\nend\n", b"form 8 1 3 7 0 0 0\nend\n", differs(255)),
+];
+
+/// Pairs whose listing is refused.
+pub const REFUSED_LISTINGS: [MarkedPair; 98] = [
+    // Line 1 breaks its grammar.
+    (EXAMPLE, b"", refused(11, 1)),
+    (EXAMPLE, b"\n", refused(11, 1)),
+    (EXAMPLE, b"\0", refused(11, 1)),
+    (EXAMPLE, b"end\n", refused(11, 1)),
+    (EXAMPLE, b"term -- 10\nend\n", refused(11, 1)),
+    (EXAMPLE, EXAMPLE, refused(11, 1)),
+    (EXAMPLE, b"form 2 2 1 1 2 2 2", refused(11, 1)),
+    (EXAMPLE, b"form 2 2 1 1 2 2\nend\n", refused(11, 1)),
+    (EXAMPLE, b"form 2 2 1 1 2 2 2 2\nend\n", refused(11, 1)),
+    (EXAMPLE, b"form 2 2 1 1 2 2 2 \nend\n", refused(11, 1)),
+    (EXAMPLE, b" form 2 2 1 1 2 2 2\nend\n", refused(11, 1)),
+    (EXAMPLE, b"form  2 2 1 1 2 2 2\nend\n", refused(11, 1)),
+    (EXAMPLE, b"form_2_2_1_1_2_2_2\nend\n", refused(11, 1)),
+    (EXAMPLE, b"form 2 2 1 1 2 2 2\r\nend\r\n", refused(11, 1)),
+    (EXAMPLE, b"Form 2 2 1 1 2 2 2\nend\n", refused(11, 1)),
+    (EXAMPLE, b"for 2 2 1 1 2 2 2\nend\n", refused(11, 1)),
+    (EXAMPLE, b"form2 2 2 1 1 2 2 2\nend\n", refused(11, 1)),
+    (EXAMPLE, b"kron 2 2 SS 2 2\nend\n", refused(11, 1)),
+    (EXAMPLE, b"form 02 2 1 1 2 2 2\nend\n", refused(11, 1)),
+    (EXAMPLE, b"form 2 02 1 1 2 2 2\nend\n", refused(11, 1)),
+    (EXAMPLE, b"form 2 2 1 01 2 2 2\nend\n", refused(11, 1)),
+    (EXAMPLE, b"form 2 2 1 1 02 2 2\nend\n", refused(11, 1)),
+    (EXAMPLE, b"form 2 2 1 1 2 02 2\nend\n", refused(11, 1)),
+    (EXAMPLE, b"form 2 2 1 1 2 2 00\nend\n", refused(11, 1)),
+    (EXAMPLE, b"form 2 2 1 +1 2 2 2\nend\n", refused(11, 1)),
+    (EXAMPLE, b"form 2 2 1 1 -2 2 2\nend\n", refused(11, 1)),
+    (EXAMPLE, b"form 2 2 1 - 2 2 2\nend\n", refused(11, 1)),
+    (EXAMPLE, b"form 2 2 1 10000 2 2 2\nend\n", refused(11, 1)),
+    (EXAMPLE, b"form 2 2 1 1 2 2 10002\nend\n", refused(11, 1)),
+    (EXAMPLE, b"form 10002 2 1 1 2 2 2\nend\n", refused(11, 1)),
+    (EXAMPLE, b"form 2 2 - 1 2 2 2\nend\n", refused(11, 1)),
+    (EXAMPLE, b"form 2 2 K 1 2 2 2\nend\n", refused(11, 1)),
+    (EXAMPLE, b"form 2 2 f1 1 2 2 2\nend\n", refused(11, 1)),
+    (EXAMPLE, b"form 2 2 11 1 2 2 2\nend\n", refused(11, 1)),
+    (EXAMPLE, b"form 2 2 01 1 2 2 2\nend\n", refused(11, 1)),
+    (EXAMPLE, b"form 2 2  1 2 2 2\nend\n", refused(11, 1)),
+    // The grammar of line 1 comes before n, m and k.
+    (EXAMPLE, b"form 3 2 1 1 2 2 2", refused(11, 1)),
+    (EXAMPLE, b"form 3 2 1 1 2 2 x\nend\n", refused(11, 1)),
+    (EXAMPLE, b"form 3 3 12 1 2 2 2\nend\n", refused(11, 1)),
+    // n, m or k is not the table's.
+    (EXAMPLE, b"form 3 2 1 1 2 2 2\nterm -- 10\nterm 00 11\nend\n", refused(12, 1)),
+    (EXAMPLE, b"form 1 2 1 1 2 2 2\nterm -- 10\nterm 00 11\nend\n", refused(12, 1)),
+    (EXAMPLE, b"form 0 2 1 1 2 2 2\nterm -- 10\nterm 00 11\nend\n", refused(12, 1)),
+    (EXAMPLE, b"form 9 2 1 1 2 2 2\nterm -- 10\nterm 00 11\nend\n", refused(12, 1)),
+    (EXAMPLE, b"form 12 2 1 1 2 2 2\nterm -- 10\nterm 00 11\nend\n", refused(12, 1)),
+    (EXAMPLE, b"form 258 2 1 1 2 2 2\nterm -- 10\nterm 00 11\nend\n", refused(12, 1)),
+    (EXAMPLE, b"form 2 1 1 1 2 2 2\nterm -- 10\nterm 00 11\nend\n", refused(12, 1)),
+    (EXAMPLE, b"form 2 3 1 1 2 2 2\nterm -- 10\nterm 00 11\nend\n", refused(12, 1)),
+    (EXAMPLE, b"form 2 22 1 1 2 2 2\nterm -- 10\nterm 00 11\nend\n", refused(12, 1)),
+    (EXAMPLE, b"form 2 2 0 1 2 2 2\nterm -- 10\nterm 00 11\nend\n", refused(12, 1)),
+    (EXAMPLE, b"form 2 2 2 3 0 2 2\nterm -- 10\nterm 00 11\nend\n", refused(12, 1)),
+    (EXAMPLE, b"form 2 2 4 1 2 2 2\nterm -- 10\nterm 00 11\nend\n", refused(12, 1)),
+    (EXAMPLE, b"form 2 2 9 1 2 2 2\nterm -- 10\nterm 00 11\nend\n", refused(12, 1)),
+    // No later line is read before that.
+    (EXAMPLE, b"form 3 2 1 1 2 2 2\n", refused(12, 1)),
+    (EXAMPLE, b"form 2 3 1 1 2 2 2\nterm -- 00\nend\n", refused(12, 1)),
+    (EXAMPLE, b"form 2 2 0 1 2 2 2\nx", refused(12, 1)),
+    (EXAMPLE, b"form 2 2 0 1 2 2 2\nend\nend\n", refused(12, 1)),
+    // A later line breaks its grammar.
+    (EXAMPLE, b"form 2 2 1 1 2 2 2\n\nend\n", refused(11, 2)),
+    (EXAMPLE, b"form 2 2 1 1 2 2 2\nform 2 2 1 1 2 2 2\nend\n", refused(11, 2)),
+    (EXAMPLE, b"form 2 2 1 1 2 2 2\nterm --\nend\n", refused(11, 2)),
+    (EXAMPLE, b"form 2 2 1 1 2 2 2\nterm -- 10 1\nend\n", refused(11, 2)),
+    (EXAMPLE, b"form 2 2 1 1 2 2 2\nterm --  10\nend\n", refused(11, 2)),
+    (EXAMPLE, b"form 2 2 1 1 2 2 2\nTerm -- 10\nend\n", refused(11, 2)),
+    (EXAMPLE, b"form 2 2 1 1 2 2 2\non -- 10\nend\n", refused(11, 2)),
+    (EXAMPLE, b"form 2 2 1 1 2 2 2\nterm - 10\nend\n", refused(11, 2)),
+    (EXAMPLE, b"form 2 2 1 1 2 2 2\nterm --- 10\nend\n", refused(11, 2)),
+    (EXAMPLE, b"form 2 2 1 1 2 2 2\nterm -2 10\nend\n", refused(11, 2)),
+    (EXAMPLE, b"form 2 2 1 1 2 2 2\nterm -x 10\nend\n", refused(11, 2)),
+    (EXAMPLE, b"form 2 2 1 1 2 2 2\nterm -- 1\nend\n", refused(11, 2)),
+    (EXAMPLE, b"form 2 2 1 1 2 2 2\nterm -- 100\nend\n", refused(11, 2)),
+    (EXAMPLE, b"form 2 2 1 1 2 2 2\nterm -- 12\nend\n", refused(11, 2)),
+    (EXAMPLE, b"form 2 2 1 1 2 2 2\nterm -- 1-\nend\n", refused(11, 2)),
+    (EXAMPLE, b"form 2 2 1 1 2 2 2\nterm -- 00\nend\n", refused(11, 2)),
+    (EXAMPLE, b"form 2 2 1 1 2 2 2\nterm -- 10", refused(11, 2)),
+    (EXAMPLE, b"form 2 2 1 1 2 2 2\nterm -- 10\nterm 00 11\nend", refused(11, 4)),
+    (EXAMPLE, b"form 2 2 1 1 2 2 2\nterm -- 10\nterm 00 11\nend\r\n", refused(11, 4)),
+    (EXAMPLE, b"form 2 2 1 1 2 2 2\nterm -- 10\nterm 00 11\nend \n", refused(11, 4)),
+    // A term is not above the one before, whatever the polarities are.
+    (EXAMPLE, b"form 2 2 1 1 2 2 2\nterm 00 11\nterm -- 10\nend\n", refused(11, 3)),
+    (EXAMPLE, b"form 2 2 1 1 2 2 0\nterm -- 10\nterm -- 10\nend\n", refused(11, 3)),
+    (EXAMPLE, b"form 2 2 1 1 2 3 4\nterm -- 10\nterm 00 11\nterm 01 11\nend\n", refused(11, 4)),
+    (EXAMPLE, b"form 2 2 1 1 2 2 2\nterm 0- 11\nterm -1 10\nend\n", refused(11, 3)),
+    (BUT_2_2, b"form 2 1 2 3 0 2 2\nterm -1 1\nterm -0 1\nend\n", refused(11, 3)),
+    // The listing stops, or goes on.
+    (EXAMPLE, b"form 2 2 1 1 2 2 2\n", refused(11, 2)),
+    (EXAMPLE, b"form 2 2 1 1 2 2 2\nterm -- 10\nterm 00 11\n", refused(11, 4)),
+    (EXAMPLE, b"form 2 2 1 1 2 2 2\nterm -- 10\nterm 00 11\nend\n\n", refused(11, 5)),
+    (EXAMPLE, b"form 2 2 1 1 2 2 2\nterm -- 10\nterm 00 11\nend\nend\n", refused(11, 5)),
+    (EXAMPLE, b"form 2 2 1 1 2 2 2\nterm -- 10\nterm 00 11\nend\nx", refused(11, 5)),
+    (EXAMPLE, b"form 2 2 1 1 2 0 0\nend\nterm -- 10\n", refused(11, 3)),
+    // The counts are not those of the lines.
+    (EXAMPLE, b"form 2 2 1 1 2 3 2\nterm -- 10\nterm 00 11\nend\n", refused(12, 1)),
+    (EXAMPLE, b"form 2 2 1 1 2 2 3\nterm -- 10\nterm 00 11\nend\n", refused(12, 1)),
+    (EXAMPLE, b"form 2 2 1 1 2 258 2\nterm -- 10\nterm 00 11\nend\n", refused(12, 1)),
+    (ZERO_0, b"form 2 1 0 0 0 9999 9999\nend\n", refused(12, 1)),
+    // They are judged after every line, and before the class and the points.
+    (EXAMPLE, b"form 2 2 1 1 2 3 2\nterm -- 10\nterm 00 11\nend\nx", refused(11, 5)),
+    (EXAMPLE, b"form 2 2 1 1 2 9 9\nterm -- 10\nterm 00 00\nend\n", refused(11, 3)),
+    (EXAMPLE, b"form 2 2 1 1 2 0 0\nterm -- 10\nterm 00 00\nend\n", refused(11, 3)),
+    (EXAMPLE, b"form 2 2 1 1 2 1 0\nterm -- 10\nterm 00 11\n", refused(11, 4)),
+    (EXAMPLE, b"form 2 2 1 1 2 1 1\nterm -- 10\nterm 00 11\nend\nend\n", refused(11, 5)),
+    (EXAMPLE, b"form 2 2 1 3 3 3 2\nterm -- 10\nterm 00 11\nend\n", refused(12, 1)),
+    (EXAMPLE, b"form 2 2 1 1 2 0 0\nterm -- 01\nend\n", refused(12, 1)),
+];
+
+/// Pairs whose table text is refused, whatever the listing is.
+pub const REFUSED_TABLES: [MarkedPair; 6] = [
+    (b"", b"", refused(6, 1)),
+    (b"", EXAMPLE_LISTING, refused(6, 1)),
+    (b"table 2 2 1", b"", refused(1, 1)),
+    (b"table 9 2 1\nend\n", b"form 3 2 1 1 2 2 2\n", refused(2, 1)),
+    (b"table 2 2 1\non 4 11\nend\n", b"form 2 2 1 1 2 x 2\n", refused(5, 2)),
+    (b"table 2 2 1\nend\nend\n", EXAMPLE_LISTING, refused(6, 3)),
+];
+
+/// Every marked pair.
+pub fn all() -> impl Iterator<Item = MarkedPair> {
+    JUDGED.into_iter().chain(REFUSED_LISTINGS).chain(REFUSED_TABLES)
+}
+
+#[cfg(test)]
+mod tests {
+    use crate::check::{answer, check};
+    use crate::marked::bytes;
+
+    #[test]
+    fn pairs() {
+        for (text, listing, wanted) in super::all() {
+            let found = answer(check(&bytes(text), &bytes(listing)));
+            assert_eq!(found, wanted, "{} {}", text.escape_ascii(), listing.escape_ascii());
+        }
+    }
+}

@@ -1,0 +1,163 @@
+//! Listings: of any member, cheap or not, and with some change.
+
+use super::Seeded;
+use super::tables::any_table;
+use super::texts::TELLING_BYTES;
+use crate::class::{Expansion, Member, fixed_polarities, mixed_sets};
+use crate::evaluator::places;
+use crate::text::Design;
+use crate::text::listing::{Listing, Product};
+
+/// Any member of the class.
+pub fn any_member(seeded: &mut Seeded, n: usize, k: usize) -> Member {
+    let mixed = *seeded.pick(&mixed_sets(n, k).collect::<Vec<usize>>());
+    let fixed = *seeded.pick(&fixed_polarities(n, mixed).collect::<Vec<usize>>());
+    let blocks = (0..places(n - k)).map(|_| seeded.below(places(k))).collect();
+    Member { mixed, fixed, blocks }
+}
+
+/// Any member of the class, with the coefficients that give the design's table.
+pub fn any_expansion(seeded: &mut Seeded, design: &Design) -> Expansion {
+    let member = any_member(seeded, design.n, design.k);
+    Expansion::giving(design.n, member, &design.table)
+}
+
+/// The listing of any member of the class that gives the design's table.
+pub fn any_listing(seeded: &mut Seeded, design: &Design) -> Listing {
+    Listing::of(design, &any_expansion(seeded, design))
+}
+
+/// The listing of any member with any coefficients, in half of the draws with a literal complemented.
+pub fn drawn_listing(seeded: &mut Seeded, design: &Design) -> Listing {
+    let Design { n, m, k, .. } = *design;
+    let (member, coefficients) = (any_member(seeded, n, k), any_table(seeded, n, m));
+    let mut listing = Listing::of(design, &Expansion::new(n, member, coefficients));
+    if seeded.once_in(2) {
+        complement_literal(seeded, &mut listing);
+    }
+    listing
+}
+
+/// The listing with no `term` line, and any numbers for M and i.
+pub fn empty_listing(seeded: &mut Seeded, design: &Design) -> Listing {
+    let nothing = Design { table: vec![0; places(design.n)], ..design.clone() };
+    let mut listing = any_listing(seeded, &nothing);
+    if !seeded.once_in(3) {
+        change_polarities(seeded, &mut listing);
+    }
+    listing
+}
+
+/// Puts the counts of the `term` lines on the first line.
+pub fn true_counts(listing: &mut Listing) {
+    listing.stated = listing.counted();
+}
+
+fn any_product<'a>(seeded: &mut Seeded, listing: &'a mut Listing) -> Option<&'a mut Product> {
+    let place = seeded.below(listing.products.len().max(1));
+    listing.products.get_mut(place)
+}
+
+/// Changes one character of a cube into another of the three.
+pub fn change_cube(seeded: &mut Seeded, listing: &mut Listing) {
+    if let Some(product) = any_product(seeded, listing) {
+        let place = seeded.below(product.cube.len());
+        let others: Vec<u8> =
+            b"01-".iter().copied().filter(|&c| c != product.cube[place]).collect();
+        product.cube[place] = *seeded.pick(&others);
+    }
+}
+
+/// Complements one literal, where the drawn cube has one.
+fn complement_literal(seeded: &mut Seeded, listing: &mut Listing) {
+    if let Some(product) = any_product(seeded, listing) {
+        let place = seeded.below(product.cube.len());
+        product.cube[place] = match product.cube[place] {
+            b'0' => b'1',
+            b'1' => b'0',
+            absent => absent,
+        };
+    }
+}
+
+/// Changes one character of the outputs, which may leave them all `0`.
+pub fn change_outputs(seeded: &mut Seeded, listing: &mut Listing) {
+    let output = seeded.below(listing.m);
+    if let Some(product) = any_product(seeded, listing) {
+        product.outputs ^= 1 << output;
+    }
+}
+
+/// Changes one of the counts by one or two, or into any other.
+pub fn change_counts(seeded: &mut Seeded, listing: &mut Listing) {
+    let stated = &mut listing.stated;
+    let count = if seeded.once_in(2) { &mut stated.products } else { &mut stated.literals };
+    let near = seeded.within(count.saturating_sub(2), *count + 2);
+    let other = if seeded.once_in(2) { near } else { seeded.below(10_000) };
+    *count = if other == *count { *count + 1 } else { other };
+}
+
+/// Leaves one `term` line out.
+pub fn drop_term(seeded: &mut Seeded, listing: &mut Listing) {
+    listing.products.remove(seeded.below(listing.products.len()));
+}
+
+/// Makes one `term` line bad: outputs that are all `0`, or a term that is not above the one before.
+pub fn break_line(seeded: &mut Seeded, listing: &mut Listing) {
+    let place = seeded.below(listing.products.len());
+    if seeded.once_in(2) {
+        listing.products[place].outputs = 0;
+    } else {
+        listing.products.insert(place, listing.products[place].clone());
+    }
+}
+
+/// Puts any number for M, for i, or for both: one that some member has, or one of up to four digits.
+pub fn change_polarities(seeded: &mut Seeded, listing: &mut Listing) {
+    let Listing { n, k, .. } = *listing;
+    let limit = *seeded.pick(&[places(n), 2 * places(n), 10_000]);
+    match seeded.below(4) {
+        0 => {
+            let Member { mixed, fixed, .. } = any_member(seeded, n, k);
+            (listing.mixed, listing.fixed) = (mixed, fixed);
+        }
+        1 => {
+            let fixed: Vec<usize> = fixed_polarities(n, listing.mixed).collect();
+            listing.fixed = *seeded.pick(&fixed);
+        }
+        2 => listing.fixed = seeded.below(limit),
+        _ => listing.mixed = seeded.below(limit),
+    }
+}
+
+/// The bytes of a listing with another number for n, m or k on its first line. A k of two digits breaks
+/// the grammar.
+pub fn with_other_sizes(seeded: &mut Seeded, listing: &Listing) -> Vec<u8> {
+    let mut first = listing.clone();
+    let size = match seeded.below(3) {
+        0 => &mut first.n,
+        1 => &mut first.m,
+        _ => &mut first.k,
+    };
+    let limit = *seeded.pick(&[9, 12, 300]);
+    let other = seeded.below(limit);
+    *size = if other >= *size { other + 1 } else { other };
+    let (written, own) = (listing.bytes(), listing.first_line().len());
+    [first.first_line().as_bytes(), &written[own..]].concat()
+}
+
+/// The bytes of a listing with one byte changed, dropped or put in: mostly a character of a cube, of outputs
+/// or of a number, changed into another such character.
+pub fn with_other_byte(seeded: &mut Seeded, listing: &[u8]) -> Vec<u8> {
+    const CHARACTERS: &[u8] = b"0101--23456789";
+    let telling = seeded.once_in(5);
+    let changed = |&place: &usize| telling || CHARACTERS.contains(&listing[place]);
+    let places: Vec<usize> = (0..listing.len()).filter(changed).collect();
+    let (before, after) = listing.split_at(*seeded.pick(&places));
+    let byte = *seeded.pick(if telling { TELLING_BYTES } else { CHARACTERS });
+    match seeded.below(10) {
+        0 => [before, &after[1..]].concat(),
+        1 => [before, &[byte], after].concat(),
+        _ => [before, &[byte], &after[1..]].concat(),
+    }
+}

@@ -1,0 +1,435 @@
+//! The fitter's check against the evaluator's: marked pairs, drawn pairs of several families, and every
+//! small change of a listing.
+
+use outside_cases::calls;
+use outside_cases::check::{self, Verdict};
+use outside_cases::evaluator::{Refusal, places};
+use outside_cases::lent::{Lent, answer};
+use outside_cases::marked::pairs::{self, EXAMPLE_LISTING};
+use outside_cases::marked::{ACCEPTED, EXAMPLE, REFUSED, bytes};
+use outside_cases::seeded::Seeded;
+use outside_cases::seeded::listings::{
+    any_listing, break_line, change_counts, change_cube, change_outputs, change_polarities,
+    drawn_listing, drop_term, empty_listing, true_counts, with_other_byte, with_other_sizes,
+};
+use outside_cases::seeded::tables::{longest_listing_table, random_table};
+use outside_cases::seeded::texts::{TELLING_BYTES, damaged_text, sound_text, with_other_lines};
+use outside_cases::text::Design;
+use outside_cases::text::listing::Listing;
+use std::collections::BTreeMap;
+
+/// How many pairs are drawn, the same number of each family.
+const PAIRS: usize = 8000;
+
+/// How often a family gives each of its outcomes, at least.
+const LEAST: usize = 5;
+
+/// A table text and a listing.
+struct Pair {
+    text: Vec<u8>,
+    listing: Vec<u8>,
+}
+
+/// What can be said of a pair, without its line or point.
+#[derive(Clone, Copy, Debug, PartialEq, Eq, PartialOrd, Ord)]
+enum Outcome {
+    Same,
+    Differs,
+    NotOfClass,
+    BadTable,
+    BadListing,
+    OtherListing,
+}
+use Outcome::*;
+
+fn outcome(judged: Result<Verdict, Refusal>) -> Outcome {
+    match judged {
+        Ok(Verdict::Same) => Same,
+        Ok(Verdict::Differs { .. }) => Differs,
+        Ok(Verdict::NotOfClass) => NotOfClass,
+        Err(Refusal { number: 11, .. }) => BadListing,
+        Err(Refusal { number: 12, .. }) => OtherListing,
+        Err(_) => BadTable,
+    }
+}
+
+/// Makes the call with margins around every buffer, and compares its answer.
+#[track_caller]
+fn check_answer(text: &[u8], listing: &[u8], wanted: calls::CheckAnswer) {
+    let (lent_text, lent_listing) = (Lent::new(text), Lent::new(listing));
+    let found = answer(|places| calls::check(lent_text.inside(), lent_listing.inside(), places));
+    lent_text.check_untouched();
+    lent_listing.check_untouched();
+    assert_eq!(found, wanted, "{}\n{}", text.escape_ascii(), listing.escape_ascii());
+}
+
+/// The call on one pair against the evaluator.
+#[track_caller]
+fn check_pair(text: &[u8], listing: &[u8]) -> Outcome {
+    let judged = check::check(text, listing);
+    check_answer(text, listing, check::answer(judged));
+    outcome(judged)
+}
+
+/// A design, mostly of few inputs, and its text.
+fn drawn(seeded: &mut Seeded) -> (Design, Vec<u8>) {
+    let most_inputs = if seeded.once_in(25) { 8 } else { 4 };
+    sound_text(seeded, most_inputs)
+}
+
+/// The same, with a table that is not all zero.
+fn drawn_with_terms(seeded: &mut Seeded) -> (Design, Vec<u8>) {
+    let (design, text) = drawn(seeded);
+    let zero = design.table.iter().all(|&byte| byte == 0);
+    if zero { drawn_with_terms(seeded) } else { (design, text) }
+}
+
+/// The listing that the text call writes.
+fn ours(text: &[u8]) -> Vec<u8> {
+    let (mut output, mut answer) = ([0; 6000], [0; 3]);
+    calls::compile(text, &mut output, &mut answer);
+    assert_eq!(answer[..2], [0, 0], "{}", text.escape_ascii());
+    output[..answer[2] as usize].to_vec()
+}
+
+/// The same, as it is read.
+fn ours_read(design: &Design, text: &[u8]) -> Listing {
+    Listing::read(design, &ours(text)).expect("our listing is sound")
+}
+
+type Change = fn(&mut Seeded, &mut Listing);
+
+/// Our listing of a table that is not all zero, with a change.
+fn changed(seeded: &mut Seeded, change: Change) -> Pair {
+    changed_twice(seeded, change, |_, _| ())
+}
+
+/// The same with two changes.
+fn changed_twice(seeded: &mut Seeded, first: Change, second: Change) -> Pair {
+    let (design, text) = drawn_with_terms(seeded);
+    let mut listing = ours_read(&design, &text);
+    first(seeded, &mut listing);
+    second(seeded, &mut listing);
+    Pair { text, listing: listing.bytes() }
+}
+
+/// A family of pairs, with the outcomes that it gives: each of them often enough, and no other.
+struct Family {
+    name: &'static str,
+    outcomes: &'static [Outcome],
+    pair: fn(&mut Seeded) -> Pair,
+}
+
+const FAMILIES: [Family; 20] = [
+    Family { name: "our listing", outcomes: &[Same], pair: own_listing },
+    Family {
+        name: "a character of a cube",
+        outcomes: &[Differs, NotOfClass, BadListing, OtherListing],
+        pair: |seeded| changed(seeded, change_cube),
+    },
+    Family {
+        name: "a character of a cube or a term less, with true counts",
+        outcomes: &[Differs, NotOfClass, BadListing],
+        pair: |seeded| changed(seeded, change_with_true_counts),
+    },
+    Family {
+        name: "a character of the outputs",
+        outcomes: &[Differs, BadListing],
+        pair: |seeded| changed(seeded, change_outputs),
+    },
+    Family {
+        name: "a count",
+        outcomes: &[OtherListing],
+        pair: |seeded| changed(seeded, change_counts),
+    },
+    Family {
+        name: "a line, or the end",
+        outcomes: &[Same, BadListing, OtherListing],
+        pair: other_lines,
+    },
+    Family {
+        name: "M or i",
+        outcomes: &[Same, NotOfClass],
+        pair: |seeded| changed(seeded, change_polarities),
+    },
+    Family {
+        name: "n, m or k",
+        outcomes: &[BadListing, OtherListing],
+        pair: |seeded| other_sizes_line(seeded, |_, _| ()),
+    },
+    Family {
+        name: "n, m or k, and a bad line",
+        outcomes: &[BadListing, OtherListing],
+        pair: |seeded| other_sizes_line(seeded, break_line),
+    },
+    Family {
+        name: "a count and a bad line",
+        outcomes: &[BadListing],
+        pair: |seeded| changed_twice(seeded, change_counts, break_line),
+    },
+    Family {
+        name: "a count, and M or i",
+        outcomes: &[OtherListing],
+        pair: |seeded| changed_twice(seeded, change_counts, change_polarities),
+    },
+    Family {
+        name: "M or i, and a character of the outputs",
+        outcomes: &[Differs, NotOfClass, BadListing],
+        pair: |seeded| changed_twice(seeded, change_polarities, change_outputs),
+    },
+    Family {
+        name: "one byte",
+        outcomes: &[Same, Differs, NotOfClass, BadListing, OtherListing],
+        pair: other_byte,
+    },
+    Family {
+        name: "a text and a listing, one or both damaged or changed",
+        outcomes: &[Same, Differs, NotOfClass, BadTable, BadListing, OtherListing],
+        pair: damaged_pair,
+    },
+    Family { name: "any member", outcomes: &[Same], pair: member_of_the_table },
+    Family { name: "any member of another table", outcomes: &[Differs], pair: member_of_another },
+    Family {
+        name: "a listing beside a text of other sizes",
+        outcomes: &[OtherListing],
+        pair: other_sizes,
+    },
+    Family {
+        name: "no term, with any M and i",
+        outcomes: &[Same, Differs, NotOfClass],
+        pair: no_term,
+    },
+    Family {
+        name: "cubes beside the table that they give",
+        outcomes: &[Same, NotOfClass],
+        pair: |seeded| cubes_beside(seeded, |_, _| ()),
+    },
+    Family {
+        name: "cubes beside that table with one byte changed",
+        outcomes: &[Differs, NotOfClass],
+        pair: |seeded| cubes_beside(seeded, change_table),
+    },
+];
+
+fn own_listing(seeded: &mut Seeded) -> Pair {
+    let (_, text) = drawn(seeded);
+    Pair { listing: ours(&text), text }
+}
+
+fn change_with_true_counts(seeded: &mut Seeded, listing: &mut Listing) {
+    let change = if seeded.once_in(3) { drop_term } else { change_cube };
+    change(seeded, listing);
+    true_counts(listing);
+}
+
+fn other_lines(seeded: &mut Seeded) -> Pair {
+    let (_, text) = drawn_with_terms(seeded);
+    Pair { listing: with_other_lines(seeded, &ours(&text)), text }
+}
+
+/// Our listing with a change in its lines, and another n, m or k.
+fn other_sizes_line(seeded: &mut Seeded, change: Change) -> Pair {
+    let (design, text) = drawn_with_terms(seeded);
+    let mut listing = ours_read(&design, &text);
+    change(seeded, &mut listing);
+    Pair { listing: with_other_sizes(seeded, &listing), text }
+}
+
+fn other_byte(seeded: &mut Seeded) -> Pair {
+    let (_, text) = drawn_with_terms(seeded);
+    Pair { listing: with_other_byte(seeded, &ours(&text)), text }
+}
+
+fn damaged_pair(seeded: &mut Seeded) -> Pair {
+    let (mut design, text) = drawn(seeded);
+    let listing = match seeded.below(4) {
+        0 => ours(&text),
+        1 => damaged_text(seeded, &ours(&text)),
+        _ => with_other_byte(seeded, &ours(&text)),
+    };
+    let text = match seeded.below(6) {
+        0 | 1 => damaged_text(seeded, &text),
+        2 => {
+            change_table(seeded, &mut design);
+            design.text()
+        }
+        _ => text,
+    };
+    Pair { text, listing }
+}
+
+fn member_of_the_table(seeded: &mut Seeded) -> Pair {
+    let (design, text) = drawn(seeded);
+    Pair { listing: any_listing(seeded, &design).bytes(), text }
+}
+
+/// Changes one output at one point.
+fn change_table(seeded: &mut Seeded, design: &mut Design) {
+    let Design { n, m, .. } = *design;
+    let place = seeded.below(places(n));
+    design.table[place] ^= 1 << seeded.below(m);
+}
+
+fn member_of_another(seeded: &mut Seeded) -> Pair {
+    let (design, _) = drawn(seeded);
+    let mut other = design.clone();
+    if seeded.once_in(2) {
+        other.table = random_table(seeded, design.n, design.m);
+    }
+    if other == design {
+        change_table(seeded, &mut other);
+    }
+    Pair { listing: any_listing(seeded, &other).bytes(), text: design.text() }
+}
+
+fn other_sizes(seeded: &mut Seeded) -> Pair {
+    let ((design, text), (other, _)) = (drawn(seeded), drawn(seeded));
+    if [design.n, design.m, design.k] == [other.n, other.m, other.k] {
+        return other_sizes(seeded);
+    }
+    Pair { text, listing: any_listing(seeded, &other).bytes() }
+}
+
+fn no_term(seeded: &mut Seeded) -> Pair {
+    let (mut design, _) = drawn(seeded);
+    if seeded.once_in(2) {
+        design.table.fill(0);
+    }
+    Pair { listing: empty_listing(seeded, &design).bytes(), text: design.text() }
+}
+
+/// Drawn cubes beside the table that they give, with a change in it.
+fn cubes_beside(seeded: &mut Seeded, change: fn(&mut Seeded, &mut Design)) -> Pair {
+    let (mut design, _) = drawn(seeded);
+    let listing = drawn_listing(seeded, &design);
+    design.table = (0..places(design.n)).map(|p| listing.value(p)).collect();
+    change(seeded, &mut design);
+    Pair { text: design.text(), listing: listing.bytes() }
+}
+
+/// Drawn pairs of each family. A family that no longer gives one of its outcomes fails.
+#[test]
+fn drawn_pairs() {
+    let mut seeded = Seeded::new(81);
+    for Family { name, outcomes, pair } in FAMILIES {
+        let mut times = BTreeMap::new();
+        for _ in 0..PAIRS / FAMILIES.len() {
+            let Pair { text, listing } = pair(&mut seeded);
+            *times.entry(check_pair(&text, &listing)).or_insert(0) += 1;
+        }
+        println!("{name}: {times:?}");
+        assert!(times.keys().eq(outcomes), "{name}: {times:?}");
+        assert!(times.values().all(|&given| given >= LEAST), "{name}: {times:?}");
+    }
+}
+
+#[test]
+fn marked_pairs() {
+    for (text, listing, wanted) in pairs::all() {
+        check_answer(&bytes(text), &bytes(listing), wanted);
+    }
+}
+
+/// The marked texts: an accepted one is the same beside its listing, a refused one is refused as it is by
+/// the reading call, whatever the listing is.
+#[test]
+fn marked_texts() {
+    for (text, listing) in ACCEPTED {
+        check_answer(&bytes(text), &bytes(listing), [0, 0, 1, 0]);
+    }
+    for (text, number, line) in REFUSED {
+        for listing in [EXAMPLE_LISTING, b"", b"form 9 9 9 1 2 2 2\n"] {
+            check_answer(&bytes(text), &bytes(listing), [number, line, 0, 0]);
+        }
+    }
+}
+
+/// The listing of any member is the same beside its own table, and differs from another table at the
+/// lowest point where the two tables do.
+#[test]
+fn members_beside_two_tables() {
+    let mut seeded = Seeded::new(82);
+    for _ in 0..300 {
+        let (design, text) = drawn(&mut seeded);
+        let mut other = design.clone();
+        (0..seeded.within(1, 4)).for_each(|_| change_table(&mut seeded, &mut other));
+        let listing = any_listing(&mut seeded, &design).bytes();
+        check_answer(&text, &listing, [0, 0, 1, 0]);
+        let lowest = (0..places(design.n)).find(|&p| design.table[p] != other.table[p]);
+        let wanted = lowest.map_or([0, 0, 1, 0], |point| [0, 0, 2, point as u64]);
+        check_answer(&other.text(), &listing, wanted);
+    }
+}
+
+/// Every byte of a listing changed into every other.
+#[test]
+fn every_byte_changed() {
+    let (text, listing) = (bytes(EXAMPLE), bytes(EXAMPLE_LISTING));
+    for place in 0..listing.len() {
+        for byte in 0..=255 {
+            let mut changed = listing.clone();
+            changed[place] = byte;
+            check_pair(&text, &changed);
+        }
+    }
+}
+
+/// A byte dropped, doubled, swapped with the next one, or a telling byte put in, and the listing cut, at
+/// every place.
+#[test]
+fn every_place_edited() {
+    let (text, listing) = (bytes(EXAMPLE), bytes(EXAMPLE_LISTING));
+    for place in 0..listing.len() {
+        let (before, after) = listing.split_at(place);
+        check_pair(&text, before);
+        check_pair(&text, &[before, &after[1..]].concat());
+        check_pair(&text, &[before, &after[..1], after].concat());
+        if let [first, second, rest @ ..] = after {
+            check_pair(&text, &[before, &[*second, *first], rest].concat());
+        }
+        for &byte in TELLING_BYTES {
+            check_pair(&text, &[before, &[byte], after].concat());
+        }
+    }
+}
+
+/// Every M and every i below 300, with no `term` line and with the lines of the example.
+#[test]
+fn every_mixed_set_and_polarity() {
+    let example = Design { n: 2, m: 2, k: 1, table: vec![2, 1, 1, 1] };
+    let zero = Design { n: 3, m: 1, k: 2, table: vec![0; 8] };
+    for design in [example, zero] {
+        let text = design.text();
+        let listing = ours_read(&design, &text);
+        for number in 0..300 {
+            for (mixed, fixed) in [(number, 0), (number, 2), (1, number), (3, number)] {
+                check_pair(&text, &Listing { mixed, fixed, ..listing.clone() }.bytes());
+            }
+        }
+    }
+}
+
+/// The longest listings, cut and with later lines changed, and lines longer than any sound one.
+#[test]
+fn long_listings() {
+    let mut seeded = Seeded::new(83);
+    for k in 0..=3 {
+        let design = Design { n: 8, m: 8, k, table: longest_listing_table() };
+        let (text, listing) = (design.text(), any_listing(&mut seeded, &design).bytes());
+        assert_eq!(check_pair(&text, &listing), Same);
+        for length in (0..listing.len()).step_by(331) {
+            assert_eq!(check_pair(&text, &listing[..length]), BadListing);
+        }
+        assert_eq!(check_pair(&text, &[&listing[..], &listing].concat()), BadListing);
+        for _ in 0..8 {
+            let damaged = damaged_text(&mut seeded, &listing);
+            check_pair(&text, &damaged);
+        }
+    }
+    let first = bytes(b"form 2 2 1 1 2 2 2\n");
+    for byte in [0, 9, 10, b'-', b'0', b'e', 255] {
+        let long = vec![byte; 20_000];
+        assert_eq!(check_pair(&bytes(EXAMPLE), &long), BadListing);
+        assert_eq!(check_pair(&bytes(EXAMPLE), &[&first[..], &long].concat()), BadListing);
+    }
+}

@@ -1,0 +1,109 @@
+//! The program `rmcheck`: a table text and a listing, in two files, to one line.
+
+use outside_cases::check::printed;
+use outside_cases::marked::pairs::{self, EXAMPLE_LISTING};
+use outside_cases::marked::{EXAMPLE, bytes};
+use outside_cases::program::{JUDGED_BYTES, Written, run_check};
+use outside_cases::seeded::Seeded;
+use outside_cases::seeded::listings::any_listing;
+use outside_cases::seeded::tables::longest_listing_table;
+use outside_cases::seeded::texts::{damaged_text, sound_text};
+use outside_cases::text::Design;
+
+/// What the program writes for a table text and a listing.
+fn written(text: &[u8], listing: &[u8]) -> Vec<u8> {
+    let files = [Written::new(text), Written::new(listing)];
+    run_check(&[files[0].path(), files[1].path()]).stdout
+}
+
+/// Compares with the evaluator, which is given what the program judges of each file.
+#[track_caller]
+fn check_files(text: &[u8], listing: &[u8]) {
+    let judged = |bytes: &[u8]| bytes[..bytes.len().min(JUDGED_BYTES)].to_vec();
+    let wanted = printed(&judged(text), &judged(listing));
+    let shown = |bytes: &[u8]| bytes.escape_ascii().to_string();
+    let found = shown(&written(text, listing));
+    assert_eq!(found, shown(&wanted), "{}\n{}", shown(text), shown(listing));
+}
+
+/// The four lines, byte for byte.
+#[test]
+fn lines() {
+    let (x2, own) = (bytes(b"table 2 1 0\non 2 1\non 3 1\nend\n"), bytes(EXAMPLE_LISTING));
+    assert_eq!(written(&bytes(EXAMPLE), &own), b"same\n");
+    assert_eq!(written(&x2, &bytes(b"form 2 1 0 0 0 0 0\nend\n")), b"differs\t2\n");
+    assert_eq!(written(&x2, &bytes(b"form 2 1 0 1 0 0 0\nend\n")), b"not of the class\n");
+    assert_eq!(written(&x2, &own), b"refused\t12\t1\n");
+    assert_eq!(written(&x2, &bytes(b"form 2 1 0 0 0 0 0\n")), b"refused\t11\t2\n");
+    assert_eq!(written(b"", b""), b"refused\t6\t1\n");
+    let last = bytes(b"table 8 1 3\non 255 1\nend\n");
+    assert_eq!(written(&last, &bytes(b"form 8 1 3 7 0 0 0\nend\n")), b"differs\t255\n");
+}
+
+#[test]
+fn marked_pairs() {
+    for (text, listing, _) in pairs::all() {
+        check_files(&bytes(text), &bytes(listing));
+    }
+}
+
+#[test]
+fn drawn_pairs() {
+    let mut seeded = Seeded::new(91);
+    for round in 0..80 {
+        let (design, text) = sound_text(&mut seeded, if round % 5 == 0 { 8 } else { 4 });
+        let listing = any_listing(&mut seeded, &design).bytes();
+        check_files(&text, &listing);
+        check_files(&text, &damaged_text(&mut seeded, &listing));
+        check_files(&damaged_text(&mut seeded, &text), &listing);
+    }
+}
+
+/// The longest text beside the longest listing.
+#[test]
+fn longest() {
+    let design = Design { n: 8, m: 8, k: 3, table: longest_listing_table() };
+    let listing = any_listing(&mut Seeded::new(92), &design).bytes();
+    check_files(&design.text(), &listing);
+}
+
+/// Files of exactly 8,192 bytes, of one more, and of many more, sound up to where they are filled up.
+#[test]
+fn files_at_the_limit() {
+    let (text, listing) = (bytes(EXAMPLE), bytes(EXAMPLE_LISTING));
+    let filled = |start: &[u8], length: usize, byte: u8| {
+        let mut bytes = start.to_vec();
+        bytes.resize(length, byte);
+        bytes
+    };
+    for length in [JUDGED_BYTES - 1, JUDGED_BYTES, JUDGED_BYTES + 1, 100_000] {
+        for byte in [0, b'\n', b'-', 255] {
+            let first = listing.split_inclusive(|&byte| byte == b'\n').next().expect("a line");
+            for start in [&listing[..], first, b""] {
+                check_files(&text, &filled(start, length, byte));
+            }
+            check_files(&filled(&text, length, byte), &listing);
+            check_files(&filled(&text, length, byte), &filled(&listing, length, byte));
+        }
+    }
+}
+
+/// A missing argument or file is told on standard error, and nothing is written on standard output.
+#[test]
+fn missing_arguments_and_files() {
+    let files = [Written::new(&bytes(EXAMPLE)), Written::new(&bytes(EXAMPLE_LISTING))];
+    let [text, listing] = [files[0].path(), files[1].path()];
+    let missing = text.with_extension("missing");
+    for arguments in [
+        &[][..],
+        &[text],
+        &[text, &missing],
+        &[&missing, listing],
+        &[&missing, &missing],
+        &[&missing],
+    ] {
+        let output = run_check(arguments);
+        assert_eq!(output.stdout, b"", "{arguments:?}");
+        assert!(!output.stderr.is_empty(), "{arguments:?}");
+    }
+}
