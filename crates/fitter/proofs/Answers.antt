@@ -1,19 +1,19 @@
 -- When each answer is given, in document 02's words. For a listing that was read: `Same` where a member prints it and gives the table
 -- (`same-to`, `same-from`), `NotOfClass` where no member prints its cubes (`not-to`, `not-from`), and else the lowest point that differs
 -- (`differs-to`, `differs-from`). For every pair of byte strings: `check-words`.
-use mathlib.Core.Bool.{Bool, true, false, cond, true≢false}
+use mathlib.Core.Bool.{Bool, true, false, cond}
 use mathlib.Core.List.{List}
 use mathlib.Core.Logic.{_↔_}
 use mathlib.Core.Path.{_≡_, refl, sym, ap, _∙_}
-use Prim.Native.Nat.{ℕ, _^_, _≤_, _<_}
+use Prim.Native.Nat.{ℕ, _^_, _≤_}
 use native.Mathlib.Omega.{arith}
 use Rattle.numbers.specs.Bytes.{at}
 use Rattle.numbers.specs.Refusals.{Sized}
 use Rattle.numbers.proofs.Shifts.{points-le}
 use Rattle.algebra.specs.Terms.{value}
 use Rattle.expansions.specs.Least.{Best, nothing, best}
-use Rattle.expansions.specs.Members.{polarity, Member, Gives}
-use Rattle.listings.specs.Listing.{listingWith, printedCubes, termLines}
+use Rattle.expansions.specs.Members.{polarity}
+use Rattle.listings.specs.Listing.{listingWith, printedCubes}
 use Rattle.listings.specs.Meaning.{listingValue, listingCubes, statedMixed, statedFixed}
 use Rattle.membership.specs.Class.{ofClass, shownPolarity, Printable}
 use Rattle.membership.proofs.Class.{class-exactly, class-member, class-lines, class-value}

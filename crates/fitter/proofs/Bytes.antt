@@ -1,16 +1,15 @@
 -- What the bytes of a listing that was read say: its M and i, its cubes, and its value at each point are those of its first line and its rows.
 use mathlib.Core.List.{List, [], _∷_}
-use mathlib.Core.Path.{_≡_, refl, ap, _∙_}
+use mathlib.Core.Path.{_≡_, ap, _∙_}
 use Prim.Native.Nat.{ℕ, _/_, _^_, _<_}
 use native.Mathlib.Omega.{arith}
 use lib.ListN.{getD}
-use Rattle.numbers.specs.Bytes.{at}
 use Rattle.numbers.specs.Refusals.{Sized}
 use Rattle.numbers.proofs.Shifts.{points-le}
 use Rattle.algebra.specs.Terms.{value}
 use Rattle.expansions.specs.Costs.{products, literals}
 use Rattle.expansions.proofs.Costs.{products-le, literals-lt}
-use Rattle.listings.specs.Listing.{listingWith, printedCubes}
+use Rattle.listings.specs.Listing.{printedCubes}
 use Rattle.listings.specs.Meaning.{listingValue, listingCubes, firstNumbers, statedMixed, statedFixed}
 use Rattle.listings.proofs.Meaning.{Small, listing-numbers, listing-value, listing-cubes}
 use Rattle.membership.specs.Class.{Shown}

@@ -1,7 +1,7 @@
 -- The answer on the record that was read is the answer on the listing (`record-judged`): the record's bytes are those of the rows.
 use mathlib.Core.Bool.{Bool, true, false, cond, _&&_}
 use mathlib.Core.List.{List}
-use mathlib.Core.Path.{_≡_, refl, sym, ap, _∙_}
+use mathlib.Core.Path.{_≡_, refl, ap}
 use Prim.Native.Nat.{ℕ, _-_, _/_, _%_, _^_, _≤_, _<_}
 use native.Mathlib.Omega.{arith}
 use borrow.Author.Tests.{ltb-true, lt-ltb}
@@ -20,13 +20,11 @@ use Rattle.membership.specs.Class.{legalPair, showsBack, shownPolarity, ofClass
 use Rattle.membership.proofs.Shown.{shown-past}
 use Rattle.table_texts.specs.declared.sizes.Sizes.{Sizes}
 use Rattle.listing_texts.specs.declared.form.Form.{Form}
-use Rattle.listing_texts.specs.declared.read.ListingAnswer.{ListingAnswer}
 use Rattle.listing_texts.specs.declared.read.ListingAnswer.the-variants as answer
 use Rattle.listing_texts.specs.Rows.{coefficientIn, complementedIn, shownBlocks}
 use Rattle.listing_texts.specs.Read.{ListingReading, shown, refused, listingReading}
 use Rattle.listing_texts.specs.Record.{shownExpansion, shownRead, handedUp}
 use Rattle.listing_texts.proofs.Exactness.{listing-read}
-use Rattle.fitter.specs.declared.check.Checked.{Checked}
 use Rattle.fitter.specs.declared.check.Checked.the-variants.{NotOfClass, Refused}
 use Rattle.fitter.specs.declared.values.Difference.the-variants.{At, Nowhere}
 use Rattle.fitter.specs.Differences.{firstDifference}
@@ -85,7 +83,10 @@ module _ (z : Sizes) (table s : List ℕ) (f : Form) (t : List ℕ) (read : list
   record-shown = go (legalPair (z .n) (z .k) (f .mixed) (f .fixed)) refl where
     go : (b : Bool) → legalPair (z .n) (z .k) (f .mixed) (f .fixed) ≡ b
         → cond
-        (b && every (2 ^ z .n) (showsBack (z .n) (f .mixed) (f .fixed) (at (shownBlocks (z .n) (f .mixed) (complementedIn t))) (at (tabulate 256 (complementedIn t))) (at (tabulate 256 (coefficientIn t)))))
+        (b
+        && every (2 ^ z .n)
+        (showsBack (z .n) (f .mixed) (f .fixed) (at (shownBlocks (z .n) (f .mixed) (complementedIn t))) (at (tabulate 256 (complementedIn t)))
+        (at (tabulate 256 (coefficientIn t)))))
         (compared (firstDifference (z .n) (value (z .n) (at (tabulate 256 (complementedIn t))) (at (tabulate 256 (coefficientIn t)))) (at table)))
         NotOfClass
         ≡ cond (b && every (2 ^ z .n) (showsBack (z .n) (f .mixed) (f .fixed) (shownPolarity (z .n) (f .mixed) (complementedIn t)) (complementedIn t) (coefficientIn t)))

@@ -1,10 +1,10 @@
 -- What is printed has at most 18 bytes (`printed-within`), and stands at the front of 18 bytes that were zero (`print-holds`).
 use mathlib.Core.List.{List, [], _∷_, _++_, map}
-use mathlib.Core.Path.{_≡_, refl, sym, ap, _∙_}
+use mathlib.Core.Path.{_≡_, refl, ap, _∙_}
 use Prim.Native.Nat.{ℕ, _-_, _≤_}
 use native.Mathlib.Omega.{arith}
 use lib.Dec.{lit≤}
-use lib.ListN.{length, take, drop, replicate, length-append, length-replicate}
+use lib.ListN.{length, take, replicate, length-append, length-replicate}
 use lib.Seq.{take-append-seam}
 use Rattle.numbers.proofs.Tables.{drop-zeros}
 use Rattle.listings.specs.Parts.{bytes}

@@ -13,7 +13,6 @@ use table_texts::read::read_table;
 use table_texts::sizes::Sizes;
 ghost use mathlib.Core.Path.{_≡_};
 ghost use Prim.Native.Nat.{_≤_};
-ghost use Rattle.numbers.specs.Refusals.{Sized};
 ghost use Rattle.listing_texts.specs.Read.{listingReading};
 ghost use Rattle.fitter.specs.Check.{judged, Check};
 ghost use Rattle.fitter.specs.inner.Judging.{judgedRecord};

@@ -4,7 +4,6 @@
 use crate::check::Checked;
 use crate::check::check;
 use text::print::judged_length;
-use text::print::write_refused;
 use writing::line::write_line;
 use writing::writer::Writer;
 ghost use mathlib.Core.List.{[]};
@@ -46,7 +45,10 @@ fn write_answer(answer: Checked, out: &mut [u8]) -> usize
             stop.at
         }
         Checked::NotOfClass => write_word(b"not of the class", out),
-        Checked::Refused { number, line } => write_refused(number, line, out),
+        Checked::Refused { number, line } => {
+            let stop = write_line(Writer { at: 0 }, out, b"refused", &[number, line]);
+            stop.at
+        }
     }
 }
 

@@ -3,7 +3,6 @@ use points::split::wide;
 use search::expansion::Expansion;
 ghost use mathlib.Core.Path.{_≡_};
 ghost use Prim.Native.Nat.{_^_, _≤_};
-ghost use lib.ListN.{length};
 ghost use Rattle.numbers.specs.Bytes.{at};
 ghost use Rattle.algebra.specs.Terms.{holds, value};
 ghost use Rattle.fitter.specs.Differences.{firstDifference};

@@ -5,7 +5,7 @@ use mathlib.Core.Path.{_≡_, refl, sym, ap, ap₂, _∙_}
 use Prim.Native.Nat.{ℕ, zero, suc, _+_, _*_, _/_, _%_, _^_, _≤_, _<_}
 use native.Mathlib.Decide.{ℕ-discrete}
 use native.Mathlib.Omega.{arith}
-use lib.Bits.{bitAnd, and-comm, and-le-l}
+use lib.Bits.{bitAnd, and-le-l}
 use lib.Dec.{T, ltb, lit<}
 use lib.ListN.{length}
 use lib.Pow.{pow-pos}

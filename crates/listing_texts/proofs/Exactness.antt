@@ -3,14 +3,14 @@
 use mathlib.Core.Bool.{Bool, true, false, cond, _&&_}
 use mathlib.Core.List.{List, [], _∷_, _++_, map, append-assoc}
 use mathlib.Core.Logic.{_↔_}
-use mathlib.Core.Path.{_≡_, refl, sym, ap, ap₂, subst, _∙_}
+use mathlib.Core.Path.{_≡_, refl, sym, ap, ap₂, _∙_}
 use Prim.Native.Nat.{ℕ, zero, suc, _+_, _*_, _/_, _%_, _^_, _≤_, _<_}
 use native.Mathlib.Decide.{decLt}
 use native.Mathlib.Omega.{arith}
 use borrow.Author.Tests.{eq-eqb, eqb-true, lt-ltb}
 use lib.Bits.{bitAnd}
 use lib.Dec.{eqb, ltb}
-use lib.ListN.{length, replicate, drop}
+use lib.ListN.{length, drop}
 use Rattle.numbers.specs.Bytes.{at, tabulate}
 use Rattle.numbers.specs.Refusals.{sizesRefusal, Sized}
 use Rattle.numbers.specs.Tests.{only}
@@ -20,7 +20,7 @@ use Rattle.numbers.proofs.Tests.{both-left, both-right}
 use Rattle.numbers.proofs.refusals.Judging.{sizes-none, sizes-accepted}
 use Rattle.expansions.specs.Costs.{counted, products, literals}
 use Rattle.expansions.proofs.Costs.{products-le, products-ext, literals-ext, literals-lt}
-use Rattle.listings.specs.Parts.{all, parts, bytes}
+use Rattle.listings.specs.Parts.{parts, bytes}
 use Rattle.listings.specs.Listing.{tabbed, line, decimal, formLine, termLines, listingWith}
 use Rattle.listings.proofs.Joined.{parts-lines}
 use Rattle.listings.proofs.Meaning.{plain-form, plain-numbers}

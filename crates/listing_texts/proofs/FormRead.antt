@@ -18,7 +18,6 @@ use Rattle.lines.proofs.Written.{number-decimal}
 use Rattle.lines.proofs.FieldsRead.{number-read}
 use Rattle.lines.proofs.Headed.{list-three, headed-read}
 use Rattle.listing_texts.specs.declared.form.Form.{Form}
-use Rattle.listing_texts.specs.declared.form.FirstLine.{FirstLine}
 use Rattle.listing_texts.specs.declared.form.FirstLine.the-variants.{States, Wrong}
 use Rattle.listing_texts.specs.Form.{formOf, firstLine}
 

@@ -1,7 +1,7 @@
 -- A listing that passes has at most 5,922 bytes (`passes-length`), so that its first 8,192 bytes are the whole of it (`passes-first`).
 use mathlib.Core.List.{List, [], _∷_}
 use mathlib.Core.Path.{_≡_}
-use Prim.Native.Nat.{ℕ, _+_, _*_, _≤_, _<_}
+use Prim.Native.Nat.{ℕ, _+_, _*_, _≤_}
 use native.Mathlib.Nat.{mul-le-mul}
 use native.Mathlib.Omega.{arith}
 use lib.ListN.{length, take}
@@ -38,7 +38,8 @@ module _ (z : Sizes) (sized : Sized (z .n) (z .m) (z .k)) (M i : ℕ) (w c : ℕ
   listing-le : length (termListing z M i w c) ≤ 5922
   unfolding termListing
   listing-le =
-      let terms : products (z .n) c * (5 + z .n + 1 + z .m + 1) ≤ 256 * 23 = mul-le-mul {n₁ = products (z .n) c} {m₁ = 5 + z .n + 1 + z .m + 1} {n₂ = 256} {m₂ = 23} few (omega (arith, sized .inputs .1, sized .outputs .1)) in
+      let width : 5 + z .n + 1 + z .m + 1 ≤ 23 = omega (arith, sized .inputs .1, sized .outputs .1) in
+      let terms : products (z .n) c * (5 + z .n + 1 + z .m + 1) ≤ 256 * 23 = mul-le-mul few width in
       rw (length-listingWith _ (z .n) (z .m) w c) (omega (arith, digits-le))
 
 pub passes-length : (z : Sizes) (s : List ℕ) → Sized (z .n) (z .m) (z .k) → Passes z s → length s ≤ 5922

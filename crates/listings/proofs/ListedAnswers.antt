@@ -9,7 +9,7 @@ use Rattle.expansions.specs.Members.{polarity}
 use Rattle.expansions.proofs.Costs.{literals-lt}
 use Rattle.listings.specs.Listing.{numbersOf, listing}
 use Rattle.listings.specs.inner.Listable.{Listable}
-use Rattle.listings.specs.Meaning.{listingValue, listingProducts, listingLiterals, statedProducts, statedLiterals, IsListing}
+use Rattle.listings.specs.Meaning.{listingValue, listingProducts, listingLiterals, IsListing}
 use Rattle.listings.proofs.Meaning.{listing-value, listing-products, listing-literals, stated-products, stated-literals}
 
 module _ (n m k : ℕ) (e : Expansion) (f : ℕ → ℕ) (hn : n ≤ 8) (hm : m ≤ 8) (hk : k ≤ 3) (minimal : Answered n k f e) where

@@ -36,7 +36,7 @@ pub fn judged_length(input: &[u8]) -> usize
 }
 
 // Writes the line `refused`, number, line into the front of `out`, and gives the line's length.
-pub fn write_refused(number: usize, line: usize, out: &mut [u8]) -> usize
+fn write_refused(number: usize, line: usize, out: &mut [u8]) -> usize
     requires { ⌜ 18 ≤ length (now out) ⌝ }
     ensures { λ r. ⌜ Put (now (out .entry)) 0 (refusedLine number line) (now (out .exit)) r ⌝ }
 {

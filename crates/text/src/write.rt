@@ -5,7 +5,6 @@ use search::polarity::term_polarity;
 use writing::line::digits_of;
 use writing::line::write_line;
 use writing::writer::Writer;
-ghost use mathlib.Core.Path.{_≡_};
 ghost use mathlib.Core.List.{[]};
 ghost use Prim.Native.Nat.{_+_, _*_, _^_, _≤_, _<_};
 ghost use lib.ListN.{length};

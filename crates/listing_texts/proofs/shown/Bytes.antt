@@ -1,7 +1,7 @@
 -- The two bytes of each row: the lower is the coefficient, the upper the complemented inputs.
 use mathlib.Core.Bool.{cond}
 use mathlib.Core.List.{List}
-use mathlib.Core.Path.{_≡_, ap, _∙_}
+use mathlib.Core.Path.{_≡_, ap}
 use Prim.Native.Nat.{ℕ, _/_, _%_, _^_, _≤_, _<_}
 use native.Mathlib.Omega.{arith}
 use lib.Dec.{ltb}
@@ -9,7 +9,6 @@ use lib.ListN.{replicate}
 use Rattle.numbers.specs.Bytes.{at, tabulate}
 use Rattle.numbers.proofs.Bytes.{tabulate-ext, at-tabulate}
 use Rattle.numbers.proofs.Shifts.{points-le}
-use Rattle.membership.specs.Class.{shownPolarity}
 use Rattle.membership.proofs.Shown.{shown-ext}
 use Rattle.listing_texts.specs.Rows.{coefficientIn, complementedIn, shownBlocks}
 

@@ -17,7 +17,7 @@ use Rattle.table_texts.specs.declared.read.ReadAnswer.the-variants as answer
 use Rattle.text.specs.declared.compile.Compiled.{Compiled}
 use Rattle.text.specs.declared.compile.Compiled.the-variants.{Written, Refused}
 use Rattle.table_texts.specs.Accepted.{Accepted}
-use Rattle.table_texts.specs.Read.{Reading, given, refused, reading, standsFor}
+use Rattle.table_texts.specs.Read.{Reading, given, reading, standsFor}
 use Rattle.text.specs.Compile.{answerListing, compiled, bufferAfter, Compile}
 use Rattle.listings.specs.Meaning.{IsListing}
 use Rattle.table_texts.proofs.read.Accepted.{reading-accepted, reads-refused}

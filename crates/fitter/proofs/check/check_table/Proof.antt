@@ -1,5 +1,5 @@
 -- `check_table` meets its contract: the listing is refused, or its record is judged.
-use mathlib.Core.Path.{_≡_, refl, sym, ap, _∙_}
+use mathlib.Core.Path.{refl, sym, ap, _∙_}
 use Rattle.listing_texts.specs.declared.read.ListingRead.{ListingRead}
 use Rattle.fitter.specs.inner.Judging.{judgedRecord}
 use Rattle.fitter.proofs.Judging.{record-judged, refused-judged}

@@ -1,7 +1,6 @@
 -- `judge_read` meets its contract: the class, and then the points.
-use mathlib.Core.Path.{_≡_, sym, ap, _∙_}
+use mathlib.Core.Path.{sym, _∙_}
 use borrow.Author.Tests.{not-true, not-false}
-use Rattle.fitter.specs.Check.{compared}
 use Rattle.fitter.specs.inner.Judging.{judgedRecord}
 use Rattle.fitter.proofs.Judging.{legal-mixed, legal-fixed, found-at, found-nowhere}
 use borrow.Author.Needs.{needs}

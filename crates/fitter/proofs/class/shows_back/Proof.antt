@@ -1,7 +1,7 @@
 -- `shows_back` meets its contract: a term with no line passes, and any other shows the polarity of its term.
 use borrow.Author.Needs.{needs}
 use borrow.Author.Tests.{eq-eqb, ne-eqb}
-use mathlib.Core.Path.{_≡_, _∙_}
+use mathlib.Core.Path.{_∙_}
 use Rattle.search.proofs.polarity.Fitting.{termPolarity-fits}
 use Rattle.membership.specs.Class.{showsBack}
 use Rattle.fitter.proofs.class.shows_back.Statement.{statement}

@@ -1,5 +1,5 @@
 -- `judge_terms` meets its contract: a refusal of the lines keeps its line, and where they pass the counts are judged.
-use mathlib.Core.Path.{ap, sym, _∙_}
+use mathlib.Core.Path.{ap, _∙_}
 use Rattle.lines.specs.Rows as rowsRead
 use Rattle.listing_texts.specs.Read.{linesJudged}
 use Rattle.listing_texts.specs.inner.Judging.{standsFor}

@@ -1,5 +1,5 @@
 -- `read_listing` meets its contract: what judging leads to is handed up.
-use mathlib.Core.Path.{_≡_, sym, ap, _∙_}
+use mathlib.Core.Path.{sym, ap, _∙_}
 use Rattle.listing_texts.specs.Record.{handedUp}
 use Rattle.listing_texts.specs.inner.Judging.{standsFor}
 use Rattle.listing_texts.proofs.Exactness.{listing-read}

@@ -2,9 +2,8 @@
 use borrow.Author.Needs.{needs}
 use Prim.Native.Nat.{_+_, _*_, _≤_}
 use lib.ListN.{length}
-use Rattle.listings.specs.Listing.{numbersOf, formLine, listingWith, listing}
+use Rattle.listings.specs.Listing.{numbersOf, listingWith, listing}
 use Rattle.listings.specs.inner.Lengths.{digitsOf}
-use Rattle.writing.specs.Put.{Put}
 use Rattle.writing.proofs.Puts.{put-then, put-length}
 use Rattle.listings.proofs.Lengths.{digitsOf-le, length-formLine, length-products, length-stated, products-small}
 use Rattle.text.proofs.write.Listings.{listing-written, listing-short}
