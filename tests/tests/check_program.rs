@@ -88,12 +88,14 @@ fn files_at_the_limit() {
     }
 }
 
-/// A missing argument or file is told on standard error, and nothing is written on standard output.
+/// A missing argument or file, and a folder, is told on standard error, and nothing is written on standard
+/// output.
 #[test]
 fn missing_arguments_and_files() {
     let files = [Written::new(&bytes(EXAMPLE)), Written::new(&bytes(EXAMPLE_LISTING))];
     let [text, listing] = [files[0].path(), files[1].path()];
     let missing = text.with_extension("missing");
+    let folder = text.parent().expect("a folder");
     for arguments in [
         &[][..],
         &[text],
@@ -101,6 +103,8 @@ fn missing_arguments_and_files() {
         &[&missing, listing],
         &[&missing, &missing],
         &[&missing],
+        &[text, folder],
+        &[folder, listing],
     ] {
         let output = run_check(arguments);
         assert_eq!(output.stdout, b"", "{arguments:?}");
