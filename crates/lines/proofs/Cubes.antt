@@ -18,17 +18,15 @@ use Rattle.numbers.proofs.Ands.{bit-and, inside-of}
 use Rattle.numbers.proofs.Tests.{both-left, both-right}
 use Rattle.listings.specs.Listing.{descending, cubeByte, cube}
 use Rattle.listings.proofs.Characters.{length-cube, descending-ext}
+use Rattle.listings.proofs.Cubes.{character-literal}
 use Rattle.lines.specs.declared.values.Cube.the-variants.{Is, Wrong}
 use Rattle.lines.specs.Cubes.{isCharacter, presentIn, complementedIn, cubeCharacters, termShown, complementShown, cubeSaid}
 
 -- ---- one character of the cube of a term
 
 present-byte : (t w : ℕ) → t < 2 → presentIn (cubeByte t w) ≡ t
-unfolding presentIn cubeByte
-present-byte zero w h = refl
-present-byte (suc zero) zero h = refl
-present-byte (suc zero) (suc w) h = refl
-present-byte (suc (suc t)) w h = absurd (omega arith)
+unfolding presentIn
+present-byte t w h = character-literal t w h
 
 complement-byte : (t w : ℕ) → t < 2 → w < 2 → complementedIn (cubeByte t w) ≡ min t w
 unfolding complementedIn cubeByte

@@ -2,7 +2,7 @@
 use mathlib.Core.Bool.{true}
 use mathlib.Core.List.{List, [], _∷_, _++_}
 use mathlib.Core.Path.{_≡_, refl, sym, ap, ap₂, _∙_}
-use Prim.Native.Nat.{ℕ, suc}
+use Prim.Native.Nat.{ℕ, zero, suc}
 use native.Mathlib.Omega.{arith}
 use borrow.Author.Tests.{eqb-true}
 use lib.Dec.{eqb}
@@ -24,15 +24,17 @@ fields-joined l = sym (ap (λ (r : List ℕ). parts 9 l .first ++ r) (tabbed-sep
 
 -- ---- the fields of a line, by their number
 
-list-two : (fs : List (List ℕ)) → length fs ≡ 2 → fs ≡ getD fs 0 [] ∷ getD fs 1 [] ∷ []
-list-two [] e = absurd (omega arith)
-list-two (a ∷ []) e = absurd (omega arith)
-list-two (a ∷ b ∷ []) e = refl
-list-two (a ∷ b ∷ c ∷ fs) e = absurd (omega arith)
+-- g 0, g 1, .., g (n - 1)
+abbrev pub each : ℕ → (ℕ → List ℕ) → List (List ℕ)
+each zero g = []
+each (suc n) g = g 0 ∷ each n (λ i. g (suc i))
 
-pub list-three : (fs : List (List ℕ)) → length fs ≡ 3 → fs ≡ getD fs 0 [] ∷ getD fs 1 [] ∷ getD fs 2 [] ∷ []
-list-three [] e = absurd (omega arith)
-list-three (a ∷ fs) e = ap (λ (l : List (List ℕ)). a ∷ l) (list-two fs (omega arith))
+-- so many fields are the field of each number below that
+pub list-each : (fs : List (List ℕ)) (n : ℕ) → length fs ≡ n → fs ≡ each n (λ i. getD fs i [])
+list-each [] zero e = refl
+list-each [] (suc n) e = absurd (omega arith)
+list-each (f ∷ fs) zero e = absurd (omega arith)
+list-each (f ∷ fs) (suc n) e = ap (λ (l : List (List ℕ)). f ∷ l) (list-each fs n (omega arith))
 
 pub headed-read : (count : ℕ) (word l : List ℕ) → headed (suc count) word l ≡ true
     → (l ≡ word ++ tabbed (parts 9 l .others)) × (length (parts 9 l .others) ≡ count)
@@ -47,4 +49,4 @@ pub two-fields : (word l a b : List ℕ) → headed 3 word l ≡ true → field 
 unfolding fields
 two-fields word l a b h ea eb =
     let shape = headed-read 2 word l h in
-    shape .0 ∙ ap (λ (fs : List (List ℕ)). word ++ tabbed fs) (list-two (parts 9 l .others) (shape .1) ∙ ap₂ (λ (f g : List ℕ). f ∷ g ∷ []) ea eb)
+    shape .0 ∙ ap (λ (fs : List (List ℕ)). word ++ tabbed fs) (list-each (parts 9 l .others) 2 (shape .1) ∙ ap₂ (λ (f g : List ℕ). f ∷ g ∷ []) ea eb)

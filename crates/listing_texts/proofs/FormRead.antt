@@ -6,7 +6,6 @@ use mathlib.Core.Path.{_≡_, refl, ap, _∙_}
 use Prim.Native.Nat.{ℕ, _<_}
 use native.Mathlib.Omega.{arith}
 use lib.Dec.{lit≤}
-use lib.ListN.{length, getD}
 use Rattle.listings.specs.Parts.{parts, bytes, same, field, fields}
 use Rattle.listings.specs.Listing.{tabbed, decimal}
 use Rattle.listings.proofs.Joined.{parts-fields}
@@ -16,7 +15,7 @@ use Rattle.lines.specs.declared.values.Number.the-variants as number
 use Rattle.lines.specs.Fields.{number, headed}
 use Rattle.lines.proofs.Written.{number-decimal}
 use Rattle.lines.proofs.FieldsRead.{number-read}
-use Rattle.lines.proofs.Headed.{list-three, headed-read}
+use Rattle.lines.proofs.Headed.{list-each, headed-read}
 use Rattle.listing_texts.specs.declared.form.Form.{Form}
 use Rattle.listing_texts.specs.declared.form.FirstLine.the-variants.{States, Wrong}
 use Rattle.listing_texts.specs.Form.{formOf, firstLine}
@@ -86,17 +85,6 @@ form-fields (number.Is n) (number.Is m) number.Wrong M i p l f e = absurd (wrong
 form-fields (number.Is n) number.Wrong k M i p l f e = absurd (wrong-states e)
 form-fields number.Wrong m k M i p l f e = absurd (wrong-states e)
 
-list-four : (fs : List (List ℕ)) → length fs ≡ 4 → fs ≡ getD fs 0 [] ∷ getD fs 1 [] ∷ getD fs 2 [] ∷ getD fs 3 [] ∷ []
-list-four [] e = absurd (omega arith)
-list-four (a ∷ fs) e = ap (λ (l : List (List ℕ)). a ∷ l) (list-three fs (omega arith))
-
-list-seven : (fs : List (List ℕ)) → length fs ≡ 7
-    → fs ≡ getD fs 0 [] ∷ getD fs 1 [] ∷ getD fs 2 [] ∷ getD fs 3 [] ∷ getD fs 4 [] ∷ getD fs 5 [] ∷ getD fs 6 [] ∷ []
-list-seven [] e = absurd (omega arith)
-list-seven (a ∷ []) e = absurd (omega arith)
-list-seven (a ∷ b ∷ []) e = absurd (omega arith)
-list-seven (a ∷ b ∷ c ∷ fs) e = ap (λ (l : List (List ℕ)). a ∷ b ∷ c ∷ l) (list-four fs (omega arith))
-
 pub form-read : (l : List ℕ) (f : Form) → firstLine l ≡ States f → (l ≡ bytes "form" ++ tabbed (map decimal (formNumbers f))) × Digits f
 unfolding firstLine fields
 form-read l f e = go (headed 8 (bytes "form") l) refl e where
@@ -119,7 +107,7 @@ form-read l f e = go (headed 8 (bytes "form") l) refl e where
       let p = number-read 4 (field 6 l) _ (lit≤ tt) (said .products-said) in
       let c = number-read 4 (field 7 l) _ (lit≤ tt) (said .literals-said) in
       let numbers : parts 9 l .others ≡ map decimal (formNumbers f) =
-      list-seven (parts 9 l .others) (shape .1) ∙ cc (n .0, m .0, k .0, M .0, i .0, p .0, c .0) in (
+      list-each (parts 9 l .others) 7 (shape .1) ∙ cc (n .0, m .0, k .0, M .0, i .0, p .0, c .0) in (
         shape .0 ∙ ap (λ (fs : List (List ℕ)). bytes "form" ++ tabbed fs) numbers,
         record { n = n .1; m = m .1; k = k .1; mixed = M .1; fixed = i .1; products = p .1; literals = c .1 },
       )

@@ -1,58 +1,34 @@
 -- What a cube shows: its term, and of a polarity the bits at the term, and no more (`cube-same`, `cube-shown`). So the cubes of a listing tell
 -- its terms and what they show (`printedCubes-same`), and cubes, lines and values follow from that (`printedCubes-shown`, `termLines-shown`,
 -- `value-shown`).
-use mathlib.Core.Bool.{Bool, cond}
+use mathlib.Core.Bool.{Bool}
 use mathlib.Core.List.{List, [], _∷_}
-use mathlib.Core.Path.{_≡_, refl, sym, ap, _∙_}
-use Prim.Native.Nat.{ℕ, zero, suc, _-_, _^_, _<_, min}
+use mathlib.Core.Path.{_≡_, sym, ap, _∙_}
+use Prim.Native.Nat.{ℕ, _^_, _<_}
 use native.Mathlib.Decide.{ℕ-discrete}
-use native.Mathlib.Omega.{arith}
-use lib.Bits.{bitAnd, bitXor, and-le-l}
+use lib.Bits.{bitAnd, bitXor}
 use lib.Dec.{eqb}
-use Rattle.numbers.specs.Bits.{bit, inside}
-use Rattle.numbers.specs.Bytes.{at}
+use Rattle.numbers.specs.Bits.{inside}
 use Rattle.numbers.specs.Tests.{only}
-use Rattle.numbers.proofs.Ands.{bit-and, and-xor}
-use Rattle.numbers.proofs.Bits.{bit-lt}
+use Rattle.numbers.proofs.Ands.{and-xor}
 use Rattle.numbers.proofs.Nonzero.{nonzero-ext, overNonzero-ext, overNonzero-same}
-use Rattle.numbers.proofs.Pack.{bits-equal}
 use Rattle.numbers.proofs.Sums.{fold-ext}
 use Rattle.numbers.proofs.Tests.{only-zero}
 use Rattle.algebra.specs.Terms.{holds, value}
-use Rattle.listings.specs.Listing.{line, cubeByte, cube, outputBytes, termLine, termLines, printedCubes}
+use Rattle.listings.specs.Listing.{line, cube, outputBytes, termLine, termLines, printedCubes}
 use Rattle.listings.specs.Parts.{bytes}
-use Rattle.listings.proofs.Characters.{at-cube}
-use Rattle.listings.proofs.Cubes.{character-literal, cube-masked}
-
--- ---- one character
-
-character-complement : (t w : ℕ) → t < 2 → w < 2 → cond (eqb (cubeByte t w) 48) 1 0 ≡ min t w
-unfolding cubeByte
-character-complement zero w ht hw = omega arith
-character-complement (suc zero) zero ht hw = refl
-character-complement (suc zero) (suc zero) ht hw = refl
-character-complement (suc zero) (suc (suc w)) ht hw = absurd (omega arith)
-character-complement (suc (suc t)) w ht hw = absurd (omega arith)
+use Rattle.listings.proofs.Cubes.{cube-masked}
+use Rattle.lines.specs.Cubes.{termShown, complementShown}
+use Rattle.lines.proofs.Cubes.{term-cube, complement-cube}
 
 -- ---- one cube
 
-cube-at : (n t w i : ℕ) → i < n → at (cube n t w) (n - 1 - i) ≡ cubeByte (bit i t) (bit i w)
-cube-at n t w i h = at-cube n t w (n - 1 - i) (omega arith) ∙ ap (λ (x : ℕ). cubeByte (bit x t) (bit x w)) (omega arith)
-
-module _ (n t w t′ w′ : ℕ) (ht : t < 2 ^ n) (ht′ : t′ < 2 ^ n) (e : cube n t w ≡ cube n t′ w′) where
-  characters : (i : ℕ) → i < n → cubeByte (bit i t) (bit i w) ≡ cubeByte (bit i t′) (bit i w′)
-  characters i h = sym (cube-at n t w i h) ∙ ap (λ (l : List ℕ). at l (n - 1 - i)) e ∙ cube-at n t′ w′ i h
-
-  -- two cubes that are one have one term, and show the same inputs complemented
-  pub cube-same : (t ≡ t′) × (bitAnd t w ≡ bitAnd t′ w′)
-  cube-same = (
-    bits-equal n t t′ ht ht′ (λ i h.
-        sym (character-literal (bit i t) (bit i w) (bit-lt i t)) ∙ ap (λ (b : ℕ). cond (eqb b 45) 0 1) (characters i h)
-        ∙ character-literal (bit i t′) (bit i w′) (bit-lt i t′)),
-    bits-equal n (bitAnd t w) (bitAnd t′ w′) (omega (arith, and-le-l t w)) (omega (arith, and-le-l t′ w′)) (λ i h.
-        bit-and i t w ∙ sym (character-complement (bit i t) (bit i w) (bit-lt i t) (bit-lt i w)) ∙ ap (λ (b : ℕ). cond (eqb b 48) 1 0) (characters i h)
-        ∙ character-complement (bit i t′) (bit i w′) (bit-lt i t′) (bit-lt i w′) ∙ sym (bit-and i t′ w′)),
-  )
+-- two cubes that are one have one term, and show the same inputs complemented
+pub cube-same : (n t w t′ w′ : ℕ) → t < 2 ^ n → t′ < 2 ^ n → cube n t w ≡ cube n t′ w′ → (t ≡ t′) × (bitAnd t w ≡ bitAnd t′ w′)
+cube-same n t w t′ w′ h h′ e = (
+  sym (term-cube n t w h) ∙ ap termShown e ∙ term-cube n t′ w′ h′,
+  sym (complement-cube n t w h) ∙ ap complementShown e ∙ complement-cube n t′ w′ h′,
+)
 
 -- of a polarity only the bits at the term count: for its cube, its line and its truth at a point
 module _ (t w w′ : ℕ) (e : bitAnd t w ≡ bitAnd t w′) where

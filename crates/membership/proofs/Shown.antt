@@ -2,7 +2,7 @@
 -- `shown-other`), and are a member's own as far as its cubes show them (`shown-back`).
 use mathlib.Core.Bool.{Bool, true, false}
 use mathlib.Core.Path.{_≡_, refl, sym, ap, _∙_, subst}
-use Prim.Native.Nat.{ℕ, zero, suc, _-_, _^_, _≤_, _<_}
+use Prim.Native.Nat.{ℕ, suc, _-_, _^_, _≤_, _<_}
 use native.Mathlib.Omega.{arith}
 use borrow.Author.Tests.{eqb-true, eq-eqb, ne-eqb}
 use lib.Bits.{bitAnd, bitOr, or-lt, or-zero-r, and-comm, and-zero-r}
@@ -12,17 +12,16 @@ use lib.Pow.{pow-pos}
 use Rattle.numbers.specs.Bits.{inside}
 use Rattle.numbers.specs.Sums.{foldBelow}
 use Rattle.numbers.specs.Tests.{only}
-use Rattle.numbers.proofs.Ands.{and-or, and-assoc, inside-and, and-inside, inside-ors}
-use Rattle.numbers.proofs.Bits.{inside-zero}
+use Rattle.numbers.proofs.Ands.{and-or, and-assoc, inside-and, inside-ors}
 use Rattle.numbers.proofs.Sums.{fold-ext, fold-map, fold-closed}
 use Rattle.numbers.proofs.Tests.{only-closed}
 use Rattle.expansions.specs.Split.{outside}
-use Rattle.expansions.specs.Members.{block, place, polarity, Member}
+use Rattle.expansions.specs.Members.{block, place, Member}
 use Rattle.expansions.specs.Costs.{counted}
-use Rattle.expansions.proofs.Counted.{counted-none, counted-some, counted-map}
+use Rattle.expansions.proofs.Counted.{counted-some, counted-map}
 use Rattle.expansions.proofs.Split.{ones-others, gather-zero, gather-lt}
 use Rattle.expansions.proofs.Polarities.{place-shown}
-use Rattle.membership.specs.Class.{Shown, shownIn, shownPolarity, shownInputs}
+use Rattle.membership.specs.Class.{shownIn, shownPolarity, shownInputs}
 
 -- ---- of the inputs of M
 
@@ -112,13 +111,3 @@ module _ (n k M i : ℕ) (φ c : ℕ → ℕ) (member : Member n k M i φ) where
       let S = shownInputs n M c (block n M t) in
       ap (bitAnd (place n M t)) (shown-back (block n M t) ∙ and-comm F S) ∙ sym (and-assoc (place n M t) S F)
       ∙ ap (λ (x : ℕ). bitAnd x F) (place-among n M c t h u)
-
--- a member's cubes show literals of their terms alone
-pub shownIn-shown : (n M i : ℕ) (φ c : ℕ → ℕ) → Shown n (shownIn n M i φ c) c
-unfolding shownIn counted
-shownIn-shown n M i φ c =
-    record { within = λ t h. go t (polarity n M i φ t) (c t); none = λ t h z. counted-none (c t) (bitAnd t (polarity n M i φ t)) z }
-  where
-    go : (t w x : ℕ) → T (inside (counted x (bitAnd t w)) t)
-    go t w zero = rw (inside-zero t) tt
-    go t w (suc x) = and-inside t w

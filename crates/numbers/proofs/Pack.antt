@@ -56,10 +56,6 @@ pack-mod (suc N) x =
 pub pack-bits : (N x : ℕ) → x < 2 ^ N → pack N (λ p. bit p x) ≡ x
 pack-bits N x h = pack-mod N x ∙ mod-eq-of-lt h
 
--- a number is known by its bits
-pub bits-equal : (N x y : ℕ) → x < 2 ^ N → y < 2 ^ N → ((p : ℕ) → p < N → bit p x ≡ bit p y) → x ≡ y
-bits-equal N x y hx hy e = sym (pack-bits N x hx) ∙ pack-ext N _ _ e ∙ pack-bits N y hy
-
 -- ---- OR
 
 or-digits : (a b : ℕ) → a < 2 → b < 2 → bitOr a b ≡ max a b

@@ -18,7 +18,7 @@ use Rattle.lines.specs.declared.values.Number.the-variants.{Is, Wrong}
 use Rattle.lines.specs.Fields.{oneDigit, headed}
 use Rattle.lines.proofs.Written.{decimal-one, oneDigit-decimal}
 use Rattle.lines.proofs.FieldsRead.{oneDigit-read}
-use Rattle.lines.proofs.Headed.{list-three, headed-read}
+use Rattle.lines.proofs.Headed.{list-each, headed-read}
 use Rattle.table_texts.specs.declared.first.FirstLine.the-variants as first
 use Rattle.table_texts.specs.declared.sizes.Sizes.{Sizes}
 use Rattle.table_texts.specs.First.{mixed, tableLine, firstLine}
@@ -91,7 +91,7 @@ sizes-read l z e = go (headed 4 (bytes "table") l) refl e where
   go true h g =
       let shape = headed-read 3 (bytes "table") l h in
       let said = table-read (oneDigit (field 1 l)) (oneDigit (field 2 l)) (mixed (field 3 l)) z g in
-      let three = list-three (parts 9 l .others) (shape .1) in
+      let three = list-each (parts 9 l .others) 3 (shape .1) in
       record {
         mixed-field = field 3 l;
         characters =
