@@ -193,7 +193,7 @@ fn byte_at(bytes: &[u8], p: usize) -> u8
 }
 
 // The bytes, and 0 from their end on, as an array of 256.
-fn padded(bytes: &[u8]) -> [u8; 256]
+pub fn padded(bytes: &[u8]) -> [u8; 256]
     ensures { λ r. ⌜ r ≡ tabulate 256 (at (now (bytes .entry))) ⌝ }
 {
     let mut all = [0u8; 256];

@@ -9,7 +9,7 @@ use lib.Arith.{digits-div, digits-mod}
 use lib.Pow.{pow-mono}
 use Rattle.numbers.specs.Sums.{foldBelow, sumBelow}
 use Rattle.algebra.specs.Coefficients.{coefficient}
-use Rattle.numbers.proofs.Sums.{fold-ext, fold-map, fold-op, fold-split}
+use Rattle.numbers.proofs.Sums.{fold-zero, fold-ext, fold-map, fold-op, fold-split}
 use Rattle.expansions.specs.Members.{block, place, Member, Gives}
 use Rattle.expansions.specs.Costs.{counted, products, literals, weight}
 use Rattle.expansions.specs.Answers.{blockFunction, blockCharge, memberCoefficient}
@@ -55,6 +55,10 @@ products-ext n c d e = counted-ext n (λ t. 1) c d e
 pub literals-ext : (n : ℕ) (c d : ℕ → ℕ) → ((t : ℕ) → t < 2 ^ n → c t ≡ d t) → literals n c ≡ literals n d
 unfolding literals
 literals-ext n c d e = counted-ext n ones c d e
+
+pub products-zero : (n : ℕ) → products n (λ t. 0) ≡ 0
+unfolding products counted
+products-zero n = fold-zero _+_ add-assoc add-comm add-zero (2 ^ n)
 
 pub products-le : (n : ℕ) (c : ℕ → ℕ) → products n c ≤ 2 ^ n
 unfolding products

@@ -12,3 +12,5 @@ pub mod Answers
 pub mod Charges
 pub mod SmallSums
 pub mod BlockTable
+pub mod kronecker
+pub mod Rivals

@@ -4,4 +4,6 @@ pub mod Costs
 pub mod Least
 pub mod Answers
 pub mod BlockTable
+pub mod kronecker
 pub mod inner
+pub mod Rivals

@@ -1,3 +1,4 @@
 pub mod Charges
 pub mod Leading
 pub mod Planes
+pub mod KroneckerWalk

@@ -35,7 +35,7 @@ pair-half d s base e i g a h l =
 -- ---- the loops
 
 -- a multiple of d that is below another is so by d at least
-multiple-room : (d a b : ℕ) → a % d ≡ 0 → b % d ≡ 0 → a < b → a + d ≤ b
+pub multiple-room : (d a b : ℕ) → a % d ≡ 0 → b % d ≡ 0 → a < b → a + d ≤ b
 multiple-room d a b ea eb h = go (decLt (a / d) (b / d))
   where
     go : Dec (a / d < b / d) → a + d ≤ b

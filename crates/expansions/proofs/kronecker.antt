@@ -1,0 +1,13 @@
+pub mod Halves
+pub mod Values
+pub mod Steps
+pub mod Letters
+pub mod Costs
+pub mod Answers
+pub mod Runs
+pub mod Weighing
+pub mod Lowering
+pub mod Walking
+pub mod Last
+pub mod Coefficients
+pub mod Zero

@@ -1,0 +1,58 @@
+-- The answer among the Kronecker expansions, twice. First as document 02 says it: the expansion of one of the 3 ^ n kinds that gives the table
+-- and comes first. Then as a function. The function's result is that expansion, and the only one (proofs/kronecker/Answers,
+-- `kronecker-answer-is`, `kronecker-answer-only`).
+use mathlib.Core.Bool.{true}
+use mathlib.Core.Path.{_≡_}
+use Prim.Native.Nat.{ℕ, zero, suc, _^_, _≤_}
+use lib.Dec.{ltb}
+use Rattle.numbers.specs.Tests.{only}
+use Rattle.expansions.specs.Costs.{products}
+use Rattle.expansions.specs.Least.{LeastThen, firstLeast, chosen}
+use Rattle.expansions.specs.kronecker.Letters.{IsKind, KroneckerGives, lettersOf}
+use Rattle.expansions.specs.kronecker.Steps.{kroneckerCoefficient}
+use Rattle.expansions.specs.kronecker.Costs.{kroneckerLiterals, kroneckerCharge}
+
+-- ---- the answer in document 02's words
+
+-- "the letters that come first, compared from xn down, `S` before `P` before `N`": a's letters are b's, or come before them
+unfoldable pub LettersNotAfter : ℕ → (a b : ℕ → ℕ) → Type 0
+LettersNotAfter zero a b = Unit
+LettersNotAfter (suc n) a b = LeastThen (a n) (b n) (LettersNotAfter n a b)
+
+-- document 01's "fewest products, then fewest literals"; "Equal costs go to the letters that come first"
+abbrev pub KroneckerNotAfter : ℕ → (a c b d : ℕ → ℕ) → Type 0
+KroneckerNotAfter n a c b d =
+    LeastThen (products n c) (products n d) (LeastThen (kroneckerLiterals n a c) (kroneckerLiterals n b d) (LettersNotAfter n a b))
+
+-- no expansion of these kinds that gives the table, with any coefficients, comes before it
+pub record IsKroneckerAnswer (n : ℕ) (f letters c : ℕ → ℕ) : Type 0 where
+  pub kind : IsKind n letters
+  pub gives : KroneckerGives n letters c f
+  pub first : (b d : ℕ → ℕ) → IsKind n b → KroneckerGives n b d f → KroneckerNotAfter n letters c b d
+
+-- An answer with its counts p and l
+pub record KroneckerMinimal (n : ℕ) (f letters c : ℕ → ℕ) (p l : ℕ) : Type 0 where
+  pub answer : IsKroneckerAnswer n f letters c
+  pub products-counted : p ≡ products n c
+  pub literals-counted : l ≡ kroneckerLiterals n letters c
+  -- "Demand 3 holds for `K` too, its rivals all expansions of these 3^n kinds that give the same outputs": each costs at least as much
+  pub cheapest : (b d : ℕ → ℕ) → IsKind n b → KroneckerGives n b d f
+      → (p ≤ products n d) × (p ≡ products n d → l ≤ kroneckerLiterals n b d)
+
+-- ---- the answer as a function
+
+-- what the kind with the number x costs
+unfoldable pub kindCharge : ℕ → (ℕ → ℕ) → ℕ → ℕ
+kindCharge n f x = kroneckerCharge n (lettersOf x) (kroneckerCoefficient n (lettersOf x) f)
+
+-- the first least of the 3 ^ n kinds, by its number
+unfoldable pub answerKind : ℕ → (ℕ → ℕ) → ℕ
+answerKind n f = chosen (firstLeast (3 ^ n) (λ x. true) (kindCharge n f))
+
+-- the answer's letter of input i, and 0 where there is no input i
+abbrev pub answerLetters : ℕ → (ℕ → ℕ) → ℕ → ℕ
+answerLetters n f = lettersOf (answerKind n f)
+
+-- the answer's coefficient of the term t, "zero from 2^n on"
+unfoldable pub answerCoefficient : ℕ → (ℕ → ℕ) → ℕ → ℕ
+answerCoefficient n f t = only (ltb t (2 ^ n)) (kroneckerCoefficient n (answerLetters n f) f t)
