@@ -1,4 +1,3 @@
 pub mod Answer
 pub mod Leader
-pub mod Outputs
 pub mod Places

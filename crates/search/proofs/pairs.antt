@@ -1,2 +1,3 @@
+pub mod Charging
 pub mod Leading
 pub mod Trying

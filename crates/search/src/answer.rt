@@ -1,13 +1,14 @@
 // The minimising search: it hands up the expansion record of document 01's answer.
 ghost use mathlib.Core.Path.{_≡_};
 ghost use Rattle.numbers.specs.Bytes.{at};
+ghost use Rattle.lanes.specs.inner.Sizes.{Limits};
 ghost use Rattle.search.specs.Expansion.{answerExpansion, searchable, searched};
-ghost use Rattle.search.specs.inner.Search.{Limits, Given};
+ghost use Rattle.search.specs.inner.Search.{Given};
 use crate::expansion::Expansion;
 use crate::found::expansion_of;
 use crate::pairs::first_least;
-use crate::sizes::Sizes;
 use blocks::rows::block_rows;
+use lanes::sizes::Sizes;
 use numbers::refusals::judge_sizes;
 use numbers::refusals::within_outputs;
 

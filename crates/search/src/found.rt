@@ -1,20 +1,19 @@
 // The expansion record of the pair that was found: the first least polarity of each block, and the coefficients under them.
 ghost use mathlib.Core.Path.{_≡_};
-ghost use Prim.Native.Nat.{ℕ, _+_, _-_, _*_, _^_, _≤_, _<_};
+ghost use Prim.Native.Nat.{_-_, _*_, _^_};
 ghost use lib.ListN.{length};
 ghost use Rattle.numbers.specs.Bytes.{at, tabulate};
 ghost use Rattle.expansions.specs.BlockTable.{blockRows};
+ghost use Rattle.lanes.specs.inner.Sizes.{Limits};
 ghost use Rattle.search.specs.Expansion.{answerExpansion};
-ghost use Rattle.search.specs.inner.Lanes.{coefficientIn, coefficientAt};
-ghost use Rattle.search.specs.inner.Search.{Limits, Given, MixedSet, polarityAt, Leads};
-use crate::charges::cheapest_block;
+ghost use Rattle.search.specs.inner.Search.{Given, polarityAt, Leads};
 use crate::expansion::Expansion;
-use crate::lanes::expand_blocks;
 use crate::pairs::Leader;
-use crate::sizes::Pair;
-use crate::sizes::Sizes;
-use points::split::gather;
-use points::split::outside;
+use lanes::charges::cheapest_block;
+use lanes::expand::expand_blocks;
+use lanes::sizes::Pair;
+use lanes::sizes::Sizes;
+use lanes::terms::coefficients;
 
 // The first least polarity of block j, and 0 where there is no block j.
 fn polarity_at(rows: &[u64; 256], sizes: Sizes, lanes: &[u8], j: usize) -> u8
@@ -43,69 +42,6 @@ fn polarities(rows: &[u64; 256], sizes: Sizes, lanes: &[u8]) -> [u8; Expansion::
     while j < Expansion::PLACES {
         all[j] = polarity_at(rows, sizes, lanes, j);
         j += 1;
-    }
-    all
-}
-
-// The coefficient at place s of block j under the block polarity, all outputs together.
-fn coefficient_in(rows: &[u64; 256], lanes: &[u8], j: usize, s: usize, polarity: u8) -> u8
-    requires { ⌜ (now rows ≡ blockRows) × (j < 256) × (j * 8 + 8 ≤ length (now lanes)) × (s < 8) × (polarity < 8) ⌝ }
-    ensures { λ c. ⌜ c ≡ coefficientIn (at (now (lanes .entry))) j s polarity ⌝ }
-{
-    let shift = 8 * polarity as usize + s;
-    let mut byte: u8 = 0;
-    let mut o: usize = 0;
-    while o < 8 {
-        let digit = ((rows[lanes[j * 8 + o] as usize] >> shift) & 1) as u8;
-        byte += digit << o;
-        o += 1;
-    }
-    byte
-}
-
-// The coefficient of the term t, and 0 where there is no term t.
-fn coefficient_at(
-    rows: &[u64; 256],
-    sizes: Sizes,
-    mixed: usize,
-    lanes: &[u8],
-    chosen: &[u8; Expansion::PLACES],
-    t: usize,
-) -> u8
-    requires { ⌜ now rows ≡ blockRows ⌝ }
-    requires { ⌜ Limits sizes ⌝ }
-    requires { ⌜ MixedSet sizes mixed × (length (now lanes) ≡ 8 * 2 ^ (sizes .n - sizes .k)) ⌝ }
-    requires { ⌜ ((j : ℕ) → at (now chosen) j < 8) ⌝ }
-    ensures { λ c. ⌜ c ≡ coefficientAt (sizes .n) mixed (at (now (lanes .entry))) (at (now (chosen .entry))) t ⌝ }
-{
-    let all: usize = 1 << sizes.n;
-    if all <= t {
-        return 0;
-    }
-    let j = gather(sizes.n, outside(sizes.n, mixed), t);
-    let s = gather(sizes.n, mixed, t);
-    coefficient_in(rows, lanes, j, s, chosen[j])
-}
-
-// The coefficient of each term, from the block functions and the polarity of each block.
-fn coefficients(
-    rows: &[u64; 256],
-    sizes: Sizes,
-    mixed: usize,
-    lanes: &[u8],
-    chosen: &[u8; Expansion::PLACES],
-) -> [u8; Expansion::PLACES]
-    requires { ⌜ now rows ≡ blockRows ⌝ }
-    requires { ⌜ Limits sizes ⌝ }
-    requires { ⌜ MixedSet sizes mixed × (length (now lanes) ≡ 8 * 2 ^ (sizes .n - sizes .k)) ⌝ }
-    requires { ⌜ ((j : ℕ) → at (now chosen) j < 8) ⌝ }
-    ensures { λ c. ⌜ c ≡ tabulate 256 (coefficientAt (sizes .n) mixed (at (now (lanes .entry))) (at (now (chosen .entry)))) ⌝ }
-{
-    let mut all = [0u8; Expansion::PLACES];
-    let mut t: usize = 0;
-    while t < Expansion::PLACES {
-        all[t] = coefficient_at(rows, sizes, mixed, lanes, chosen, t);
-        t += 1;
     }
     all
 }

@@ -12,7 +12,8 @@ use Rattle.numbers.specs.Bytes.{at, allBelow}
 use Rattle.numbers.proofs.Tests.{same-test, both-left, both-right}
 use Rattle.numbers.proofs.refusals.Outputs.{below-at}
 use Rattle.search.specs.Expansion.{answerExpansion, searchable, searched}
-use Rattle.search.specs.inner.Search.{Limits, Given}
+use Rattle.lanes.specs.inner.Sizes.{Limits}
+use Rattle.search.specs.inner.Search.{Given}
 use Rattle.numbers.specs.Refusals.{sizesRefusal, Sized}
 use Rattle.numbers.proofs.refusals.Judging.{sizes-none, sizes-accepted}
 

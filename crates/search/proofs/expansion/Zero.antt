@@ -12,19 +12,16 @@ use Rattle.numbers.specs.Bytes.{at}
 use Rattle.numbers.proofs.Sums.{fold-zero}
 use Rattle.numbers.proofs.Tables.{tabulate-zero}
 use Rattle.algebra.proofs.Value.{value-zero}
-use Rattle.expansions.specs.Costs.{counted, products, literals}
+use Rattle.expansions.specs.Costs.{counted, literals}
 use Rattle.expansions.specs.Answers.{IsAnswer, answerMixed, answerFixed, answerPolarity, answerCoefficient}
 use Rattle.search.specs.Expansion.{answerExpansion, emptyExpansion, searchable, searched}
+use Rattle.expansions.proofs.Costs.{products-zero}
 use Rattle.expansions.proofs.Least.{then-from}
 use Rattle.expansions.proofs.Lowest.{lowest-member, lowest-first}
 use Rattle.expansions.proofs.Answers.{answer-polarity-zero, answer-coefficient-zero, answer-only}
 use Rattle.search.proofs.answer.Searchable.{allowed-sizes}
 
 -- ---- no product
-
-products-zero : (n : ℕ) → products n (λ t. 0) ≡ 0
-unfolding products counted
-products-zero n = fold-zero _+_ add-assoc add-comm add-zero (2 ^ n)
 
 literals-zero : (n : ℕ) → literals n (λ t. 0) ≡ 0
 unfolding literals counted

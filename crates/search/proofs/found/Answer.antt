@@ -8,11 +8,13 @@ use Rattle.numbers.specs.Bytes.{at, tabulate}
 use Rattle.expansions.specs.Answers.{answerMixed, answerFixed, answerCoefficient}
 use Rattle.expansions.specs.Split.{gather, outside}
 use Rattle.search.specs.Expansion.{answerExpansion}
-use Rattle.search.specs.inner.Lanes.{blockLanes, coefficientAt}
-use Rattle.search.specs.inner.Search.{Limits, Given, Leads, polarityAt}
+use Rattle.lanes.specs.inner.Lanes.{blockLanes}
+use Rattle.lanes.specs.inner.Sizes.{Limits}
+use Rattle.lanes.specs.inner.Terms.{coefficientAt}
+use Rattle.search.specs.inner.Search.{Given, Leads, polarityAt}
 use Rattle.search.specs.declared.expansion.Expansion.{Expansion}
 use Rattle.search.specs.declared.pairs.Leader.{Leader}
-use Rattle.search.specs.declared.sizes.Sizes.{Sizes}
+use Rattle.lanes.specs.declared.sizes.Sizes.{Sizes}
 use Rattle.search.proofs.found.Places.{polarities-answer, chosen-lt, coefficients-answer}
 use Rattle.search.proofs.found.Leader.{leader-mixed, leader-fixed, leader-products, leader-literals}
 

@@ -14,15 +14,17 @@ use Rattle.expansions.specs.Members.{block, place, Member}
 use Rattle.expansions.specs.BlockTable.{entry}
 use Rattle.expansions.specs.Split.{gather, outside}
 use Rattle.expansions.specs.Answers.{blockFunction, memberCoefficient, answerMixed, answerFixed, answerPolarity, answerCoefficient}
-use Rattle.search.specs.inner.Lanes.{blockLanes, coefficientIn, coefficientAt}
-use Rattle.search.specs.inner.Search.{Limits, MixedSet, polarityAt}
-use Rattle.search.specs.declared.sizes.Sizes.{Sizes}
+use Rattle.lanes.specs.inner.Lanes.{blockLanes}
+use Rattle.lanes.specs.inner.Sizes.{Limits, MixedSet}
+use Rattle.lanes.specs.inner.Terms.{coefficientIn, coefficientAt}
+use Rattle.search.specs.inner.Search.{polarityAt}
+use Rattle.lanes.specs.declared.sizes.Sizes.{Sizes}
 use Rattle.numbers.proofs.Tables.{at-whole}
 use Rattle.numbers.proofs.Pack.{pack-ext}
 use Rattle.expansions.proofs.Blocks.{block-lt, place-lt, blockFunction-lt}
 use Rattle.expansions.proofs.BlockTable.{entry-outputs}
 use Rattle.expansions.proofs.Answers.{only-ext, answer-member, answer-polarity-lt, answer-polarity-zero}
-use Rattle.search.proofs.lanes.Held.{held-plane, held-polarity}
+use Rattle.lanes.proofs.expand.Held.{held-plane, held-polarity}
 
 module _ (s : Sizes) (f : ℕ → ℕ) (lanes : List ℕ) (limits : Limits s) (outputs : (p : ℕ) → p < 2 ^ s .n → f p < 2 ^ 8)
     (held : lanes ≡ blockLanes (s .n) (s .k) (answerMixed (s .n) (s .k) f) (gather (s .n) (outside (s .n) (answerMixed (s .n) (s .k) f)) (answerFixed (s .n) (s .k) f)) f) where

@@ -18,7 +18,7 @@ use Rattle.expansions.proofs.Least.{leading-skip, leading-take, leading-keep}
 use Rattle.expansions.proofs.Masks.{valid-from, valid-size, valid-clear}
 use Rattle.expansions.proofs.Ascending.{spread-less, gather-spread-outside, gather-above, spread-above}
 use Rattle.expansions.proofs.Split.{ones-others, spread-lt}
-use Rattle.search.proofs.lanes.Held.{fixed-lt}
+use Rattle.lanes.proofs.expand.Held.{fixed-lt}
 use Rattle.search.specs.inner.Search.{Leads, ledBy, pairValid, pairCost}
 use Rattle.search.specs.declared.pairs.Leader.{Leader}
 

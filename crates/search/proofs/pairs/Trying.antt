@@ -9,11 +9,13 @@ use Rattle.numbers.specs.Bytes.{at}
 use Rattle.expansions.specs.Answers.{pairCharge, blockCharge}
 use Rattle.expansions.specs.Split.{gather, spread, outside}
 use Rattle.expansions.proofs.Split.{gather-zero, gather-spread, ones-others}
-use Rattle.search.proofs.lanes.Held.{held-pair, pairCharge-lt}
+use Rattle.lanes.proofs.expand.Held.{held-pair, pairCharge-lt}
 use Rattle.search.proofs.pairs.Leading.{Tried, tried-none, tried-next, tried-all}
-use Rattle.search.specs.inner.Lanes.{lanesUnder, blockLanes, placesByte}
-use Rattle.search.specs.inner.Search.{Limits, Given, MixedSet, chargeFrom, ledBy, Leads}
-use Rattle.search.specs.declared.sizes.Sizes.{Sizes}
+use Rattle.lanes.specs.inner.Lanes.{lanesUnder, blockLanes, placesByte}
+use Rattle.lanes.specs.inner.Sizes.{Limits, MixedSet}
+use Rattle.lanes.specs.inner.Charges.{chargeFrom}
+use Rattle.search.specs.inner.Search.{Given, ledBy, Leads}
+use Rattle.lanes.specs.declared.sizes.Sizes.{Sizes}
 use Rattle.search.specs.declared.pairs.Leader.{Leader}
 
 pub record Trying (s : Sizes) (M : ℕ) (f : ℕ → ℕ) (count w : ℕ) (lanes : List ℕ) (l : Leader) : Type 0 where

@@ -1,55 +1,24 @@
--- What the search holds on its way: the sizes, the mixed set under trial, the least polarity of a block, and the pair that leads. Cited by the
+-- What the search holds on its way: the table, the polarity of a block, from the functions of all blocks, and the pair that leads. Cited by the
 -- contracts of private functions; no public contract rests on this file.
 use mathlib.Core.Bool.{Bool, cond}
 use mathlib.Core.List.{List}
 use mathlib.Core.Path.{_≡_}
-use Prim.Native.Nat.{ℕ, _+_, _-_, _*_, _/_, _%_, _^_, _≤_, _<_}
-use lib.Count.{ones, onesIn}
+use Prim.Native.Nat.{ℕ, _+_, _-_, _*_, _/_, _%_, _^_, _<_}
 use lib.Dec.{ltb}
 use lib.ListN.{length}
 use Rattle.numbers.specs.Bytes.{at}
 use Rattle.numbers.specs.Tests.{only}
-use Rattle.numbers.specs.Words.{byte}
-use Rattle.expansions.specs.inner.Charges.{usedCharge}
 use Rattle.expansions.specs.inner.Leading.{Leading}
 use Rattle.expansions.specs.Least.{firstLeast}
 use Rattle.expansions.specs.Split.{spread, outside}
 use Rattle.expansions.specs.Answers.{blockCharge, leastPolarity, pairCharge, validPair}
-use Rattle.search.specs.inner.Lanes.{usedAt}
-use Rattle.search.specs.declared.sizes.Sizes.{Sizes}
-use Rattle.search.specs.declared.charges.LeastSum.{LeastSum}
-use Rattle.search.specs.declared.charges.Cheapest.{Cheapest}
+use Rattle.lanes.specs.inner.Charges.{chargeFrom}
 use Rattle.search.specs.declared.pairs.Leader.{Leader}
-
--- the limits within which n and k are where the search is carried out
-pub record Limits (s : Sizes) : Type 0 where
-  pub inputs : s .n ≤ 8
-  pub mixed : s .k ≤ 3
-  pub within : s .k ≤ s .n
 
 -- a table of n inputs
 pub record Given (n : ℕ) (table : List ℕ) : Type 0 where
   pub long : length table ≡ 2 ^ n
   pub bytes : (p : ℕ) → at table p < 2 ^ 8
-
--- "a mixed set M of exactly k inputs (as a mask)"
-pub record MixedSet (s : Sizes) (M : ℕ) : Type 0 where
-  pub mask : M < 2 ^ s .n
-  pub size : onesIn (s .n) M ≡ s .k
-
--- the first of the least of the first 2 ^ k bytes of a word
-pub record IsLeastSum (k sums : ℕ) (r : LeastSum) : Type 0 where
-  pub polarity : r .polarity ≡ leastPolarity k (λ φ. byte φ sums)
-  pub sum : r .sum ≡ byte (leastPolarity k (λ φ. byte φ sums)) sums
-
--- the first least polarity of a block, and what the block costs under it
-pub record IsCheapest (k : ℕ) (cost : ℕ → ℕ) (r : Cheapest) : Type 0 where
-  pub polarity : r .polarity ≡ leastPolarity k cost
-  pub charge : r .charge ≡ cost (leastPolarity k cost)
-
--- what block j costs under φ, from the block functions
-abbrev pub chargeFrom : (ℕ → ℕ) → ℕ → ℕ → ℕ
-chargeFrom lanes j φ = usedCharge (ones j) (usedAt lanes j φ)
 
 -- the first least polarity of block j, from the block functions, and 0 where there is no block j
 unfoldable pub polarityAt : ℕ → ℕ → (ℕ → ℕ) → ℕ → ℕ

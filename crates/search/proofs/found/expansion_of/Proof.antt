@@ -7,8 +7,8 @@ use Prim.Native.Nat.{ℕ, _-_, _*_, _/_, _^_}
 use lib.ListN.{length}
 use lib.Pow.{pow-pos}
 use Rattle.numbers.proofs.Shifts.{one-shifted}
-use Rattle.search.specs.inner.Search.{MixedSet}
-use Rattle.search.proofs.lanes.Room.{room-fits, room-lent, room-counted, room-kept, room-fits-again, room-counted-again}
+use Rattle.lanes.specs.inner.Sizes.{MixedSet}
+use Rattle.lanes.proofs.expand.Room.{room-fits, room-lent, room-counted, room-kept, room-fits-again, room-counted-again}
 use Rattle.search.proofs.found.Leader.{leader-member}
 use Rattle.search.proofs.found.Answer.{blocks-lt, record-answer}
 use native.Mathlib.Omega.{arith}

@@ -3,7 +3,7 @@ use borrow.Author.Needs.{needs}
 use Prim.Native.Nat.{_-_}
 use native.Mathlib.Omega.{arith}
 use Rattle.numbers.specs.Bytes.{at}
-use Rattle.search.proofs.charges.Pairs.{BlocksSummed, blocks-none, blocks-few, blocks-lt, blocks-more, blocks-all}
+use Rattle.search.proofs.pairs.Charging.{BlocksSummed, blocks-none, blocks-few, blocks-lt, blocks-more, blocks-all}
 use Rattle.search.proofs.pairs.pair_charge.Statement.{statement}
 use Rattle.search.proofs.pairs.pair_charge.Tie as tie
 

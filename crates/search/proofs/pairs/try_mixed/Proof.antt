@@ -2,7 +2,7 @@
 use borrow.Author.Needs.{needs}
 use mathlib.Core.Path.{sym, _∙_}
 use native.Mathlib.Omega.{arith}
-use Rattle.search.proofs.lanes.Room.{room-fits, room-lent, room-counted}
+use Rattle.lanes.proofs.expand.Room.{room-fits, room-lent, room-counted}
 use Rattle.search.proofs.pairs.Leading.{leads-other}
 use Rattle.search.proofs.pairs.try_mixed.Statement.{statement}
 use Rattle.search.proofs.pairs.try_mixed.Tie as tie

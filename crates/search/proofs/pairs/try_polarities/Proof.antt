@@ -5,7 +5,7 @@ use Prim.Native.Nat.{_-_}
 use native.Mathlib.Omega.{arith}
 use Rattle.numbers.specs.Bytes.{at}
 use Rattle.numbers.proofs.Shifts.{one-shifted}
-use Rattle.search.proofs.lanes.Room.{blocks-le, room-le}
+use Rattle.lanes.proofs.expand.Room.{blocks-le, room-le}
 use Rattle.search.proofs.pairs.Trying.{Trying, trying-none, trying-next, trying-all}
 use Rattle.search.proofs.pairs.try_polarities.Statement.{statement}
 use Rattle.search.proofs.pairs.try_polarities.Tie as tie

@@ -1,0 +1,3 @@
+pub mod Used
+pub mod Sums
+pub mod Polarities

@@ -1,0 +1,66 @@
+-- Where `lanes` holds the block functions of M and i, the charges that the code computes from them are those of the blocks (`held-charge`).
+-- So are the first least polarity of each block (`held-polarity`) and the charge of the pair (`held-pair`), which fits u32 (`pairCharge-lt`).
+use mathlib.Core.Path.{_≡_, sym, ap, ap₂, _∙_}
+use mathlib.Core.List.{List}
+use Prim.Native.Nat.{ℕ, _+_, _-_, _*_, _/_, _%_, _^_, _<_}
+use native.Mathlib.Omega.{arith}
+use lib.Arith.{digits-div, digits-mod}
+use lib.Bits.{bitOr}
+use lib.Count.{onesIn, ones}
+use Rattle.numbers.specs.Bytes.{at}
+use Rattle.numbers.proofs.Bytes.{at-tabulate}
+use Rattle.numbers.proofs.Sums.{fold-ext}
+use Rattle.algebra.specs.Coefficients.{coefficient}
+use Rattle.expansions.specs.Answers.{blockFunction, blockCharge, leastPolarity, pairCharge}
+use Rattle.expansions.specs.BlockTable.{entry}
+use Rattle.expansions.specs.Split.{gather, outside, join}
+use Rattle.expansions.specs.inner.Charges.{usedCharge}
+use Rattle.expansions.specs.inner.Planes.{plane}
+use Rattle.expansions.proofs.BlockTable.{used, plane-coefficient, blockCharge-byte, pairCharge-small}
+use Rattle.expansions.proofs.Minimal.{leastPolarity-ext, pairCharge-ext}
+use Rattle.expansions.proofs.Split.{ones-others, gather-lt}
+use Rattle.lanes.specs.inner.Lanes.{placesByte, lanesUnder, blockLanes}
+use Rattle.lanes.specs.inner.Sizes.{Limits, MixedSet}
+use Rattle.lanes.specs.inner.Charges.{usedAt, chargeFrom}
+use Rattle.lanes.specs.declared.sizes.Sizes.{Sizes}
+
+-- byte q * 8 + o of functions side by side is the function o, at q
+pub lanes-at : (r w : ℕ) (f : ℕ → ℕ → ℕ) (o q : ℕ) → o < 8 → q < 2 ^ r → at (lanesUnder r w f) (q * 8 + o) ≡ coefficient r w (f o) q
+unfolding lanesUnder
+lanes-at r w f o q ho hq =
+    at-tabulate (8 * 2 ^ r) (λ x. coefficient r w (f (x % 8)) (x / 8)) (q * 8 + o) (omega arith)
+    ∙ ap₂ (λ (a b : ℕ). coefficient r w (f a) b) (digits-mod q ho) (digits-div q ho)
+
+-- the fixed polarity, at the inputs outside the mixed set
+pub fixed-lt : (n k M i : ℕ) → onesIn n M ≡ k → gather n (outside n M) i < 2 ^ (n - k)
+fixed-lt n k M i e = rw (← (ones-others n k M e)) (gather-lt n (outside n M) i)
+
+-- ---- the charges of a pair, from its block functions
+
+module _ (s : Sizes) (M i : ℕ) (f : ℕ → ℕ) (lanes : List ℕ) (limits : Limits s) (outputs : (p : ℕ) → p < 2 ^ s .n → f p < 2 ^ 8)
+    (set : MixedSet s M) (held : lanes ≡ blockLanes (s .n) (s .k) M (gather (s .n) (outside (s .n) M) i) f) where
+  pub held-plane : (o j : ℕ) → o < 8 → j < 2 ^ (s .n - s .k) → at lanes (j * 8 + o) ≡ plane (s .k) (blockFunction (s .n) (s .k) f M i j) o
+  unfolding placesByte blockFunction
+  held-plane o j ho hj =
+      ap (λ (x : List ℕ). at x (j * 8 + o)) held
+      ∙ lanes-at (s .n - s .k) (gather (s .n) (outside (s .n) M) i) (placesByte (s .n) (s .k) M f) o j ho hj
+      ∙ plane-coefficient (s .k) (s .n - s .k) (gather (s .n) (outside (s .n) M) i) (λ q p. f (join (s .n) M q p)) o j (fixed-lt (s .n) (s .k) M i (set .size))
+
+  held-used : (j φ : ℕ) → j < 2 ^ (s .n - s .k) → usedAt (at lanes) j φ ≡ used 8 (s .k) φ (blockFunction (s .n) (s .k) f M i j)
+  unfolding usedAt used
+  held-used j φ h = fold-ext bitOr 8 _ _ (λ o l. ap (λ (g : ℕ). entry g φ) (held-plane o j l h))
+
+  pub held-charge : (j φ : ℕ) → j < 2 ^ (s .n - s .k) → φ < 2 ^ s .k → chargeFrom (at lanes) j φ ≡ blockCharge (s .n) (s .k) f M i j φ
+  unfolding usedCharge
+  held-charge j φ hj hφ =
+      ap (usedCharge (ones j)) (held-used j φ hj) ∙ sym (blockCharge-byte 8 (s .n) (s .k) f M i j φ (limits .mixed) hφ (set .size) outputs)
+
+  pub held-polarity : (j : ℕ) → j < 2 ^ (s .n - s .k) → leastPolarity (s .k) (chargeFrom (at lanes) j) ≡ leastPolarity (s .k) (blockCharge (s .n) (s .k) f M i j)
+  held-polarity j h = leastPolarity-ext (s .k) _ (blockCharge (s .n) (s .k) f M i j) (λ φ l. held-charge j φ h l)
+
+  pub held-pair : pairCharge (s .n) (s .k) (chargeFrom (at lanes)) ≡ pairCharge (s .n) (s .k) (blockCharge (s .n) (s .k) f M i)
+  held-pair = pairCharge-ext (s .n) (s .k) _ (blockCharge (s .n) (s .k) f M i) held-charge
+
+-- a pair costs less than the charge that stands for no pair, 2 ^ 32 - 1
+pub pairCharge-lt : (s : Sizes) (f : ℕ → ℕ) (M i : ℕ) → Limits s → pairCharge (s .n) (s .k) (blockCharge (s .n) (s .k) f M i) < 2 ^ 31
+pairCharge-lt s f M i limits = pairCharge-small (s .n) (s .k) f M i (limits .inputs) (limits .mixed) (limits .within)

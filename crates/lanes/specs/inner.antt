@@ -1,0 +1,4 @@
+pub mod Lanes
+pub mod Sizes
+pub mod Charges
+pub mod Terms

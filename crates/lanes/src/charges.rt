@@ -1,0 +1,110 @@
+// What a block costs, one number for products, then literals: 4096 for each product and 1 for each literal. The eight polarities of a block
+// are charged side by side in one word, term by term. The main property: `cheapest_block` hands up the first least polarity of a block.
+ghost use mathlib.Core.Path.{_≡_};
+ghost use Prim.Native.Nat.{_+_, _*_, _≤_, _<_};
+ghost use lib.Count.{ones};
+ghost use lib.ListN.{length};
+ghost use Rattle.numbers.specs.Bytes.{at};
+ghost use Rattle.numbers.specs.Words.{word, byte};
+ghost use Rattle.expansions.specs.BlockTable.{blockRows};
+ghost use Rattle.expansions.specs.inner.Charges.{smallSum, usedCharge};
+ghost use Rattle.lanes.specs.inner.Charges.{usedAt, IsLeastSum, IsCheapest};
+
+// The literal count of each of the eight terms.
+const LITERALS: [u8; 8] = [0, 1, 1, 2, 1, 2, 2, 3];
+
+// The least of the small sums of a block, and the first polarity that has it.
+pub struct LeastSum {
+    pub sum: u32,
+    pub polarity: u8,
+}
+
+// The first least polarity of a block, and what the block costs under it.
+pub struct Cheapest {
+    pub charge: u32,
+    pub polarity: u8,
+}
+
+// A byte as a word.
+fn wide(x: u8) -> u64
+    ensures { λ r. ⌜ (r ≡ x) × (r < 256) ⌝ }
+{
+    x as u64
+}
+
+// The terms that some output has in block j, as the bits of a byte for each of the eight polarities, from the block functions.
+fn used_terms(rows: &[u64; 256], lanes: &[u8], j: usize) -> u64
+    requires { ⌜ (now rows ≡ blockRows) × (j < 256) × (j * 8 + 8 ≤ length (now lanes)) ⌝ }
+    ensures { λ u. ⌜ u ≡ word 8 (usedAt (at (now (lanes .entry))) j) ⌝ }
+{
+    let mut used: u64 = 0;
+    let mut o: usize = 0;
+    while o < 8 {
+        used = used | rows[lanes[j * 8 + o] as usize];
+        o += 1;
+    }
+    used
+}
+
+// The small sum of each of eight bytes of terms, as the bytes of a word: the term's bit in each of the eight, times its weight.
+fn small_sums(used: u64) -> u64
+    ensures { λ r. ⌜ r ≡ word 8 (λ φ. smallSum (byte φ used)) ⌝ }
+{
+    let literals = LITERALS;
+    let mut sums: u64 = 0;
+    let mut t: usize = 0;
+    while t < 8 {
+        sums = sums + ((used >> t) & 0x0101010101010101) * (16 + wide(literals[t]));
+        t += 1;
+    }
+    sums
+}
+
+// The least of the first 2^k bytes of the word, and the first that has it.
+fn least_sum(k: usize, sums: u64) -> LeastSum
+    requires { ⌜ k ≤ 3 ⌝ }
+    ensures { λ r. ⌜ IsLeastSum k sums r ⌝ }
+{
+    let count: usize = 1 << k;
+    let mut least = LeastSum {
+        sum: (sums & 255) as u32,
+        polarity: 0,
+    };
+    let mut rest = sums >> 8;
+    let mut left: usize = count - 1;
+    while 0 < left {
+        let sum = (rest & 255) as u32;
+        if sum < least.sum {
+            least = LeastSum {
+                sum,
+                polarity: ((count - left) & 255) as u8,
+            };
+        }
+        rest = rest >> 8;
+        left -= 1;
+    }
+    least
+}
+
+// The literals that each term of block j has outside the mixed set, counted three inputs at a time.
+fn literals_outside(j: usize) -> u32
+    requires { ⌜ j < 256 ⌝ }
+    ensures { λ r. ⌜ r ≡ ones j ⌝ }
+{
+    let literals = LITERALS;
+    literals[j & 7] as u32 + literals[(j >> 3) & 7] as u32 + literals[(j >> 6) & 7] as u32
+}
+
+// The first least of the 2^k polarities of block j, from the block functions.
+pub fn cheapest_block(rows: &[u64; 256], k: usize, lanes: &[u8], j: usize) -> Cheapest
+    requires { ⌜ (now rows ≡ blockRows) × (k ≤ 3) × (j < 256) × (j * 8 + 8 ≤ length (now lanes)) ⌝ }
+    ensures { λ c. ⌜ IsCheapest k (λ φ. usedCharge (ones j) (usedAt (at (now (lanes .entry))) j φ)) c ⌝ }
+{
+    let used = used_terms(rows, lanes, j);
+    let least = least_sum(k, small_sums(used));
+    let more = literals_outside(j);
+    Cheapest {
+        charge: (least.sum >> 4) * (4096 + more) + (least.sum & 15),
+        polarity: least.polarity,
+    }
+}

@@ -1,0 +1,21 @@
+// The numbers that the search carries with it.
+
+// How many inputs the table has, and how many of them are mixed.
+pub struct Sizes {
+    pub n: usize,
+    pub k: usize,
+}
+
+impl Sizes {
+    // The most blocks, one for each point of as many inputs as there can be.
+    pub const PLACES: usize = 1 << numbers::refusals::MOST_INPUTS;
+
+    // The most room that block functions take: a byte for each output of each block.
+    pub const ROOM: usize = numbers::refusals::MOST_OUTPUTS * Sizes::PLACES;
+}
+
+// A mixed set M and a fixed polarity i, as masks.
+pub struct Pair {
+    pub mixed: usize,
+    pub fixed: usize,
+}

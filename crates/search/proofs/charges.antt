@@ -1,4 +1,0 @@
-pub mod Used
-pub mod Sums
-pub mod Polarities
-pub mod Pairs

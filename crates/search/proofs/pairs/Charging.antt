@@ -1,0 +1,68 @@
+-- The loop over the blocks of a pair. It holds what the blocks passed cost, each under its first least polarity (`BlocksSummed`); at the end
+-- that is the pair's charge (`blocks-all`).
+use mathlib.Core.Path.{_≡_, refl, ap, ap₂, _∙_}
+use Prim.Native.Nat.{ℕ, _+_, _-_, _*_, _%_, _^_, _≤_, _<_}
+use native.Mathlib.Numerals.{add-one}
+use native.Mathlib.Omega.{arith}
+use lib.Pow.{pow-mono}
+use Rattle.numbers.specs.Sums.{foldBelow, sumBelow}
+use Rattle.numbers.proofs.Shifts.{one-shifted, points-le}
+use Rattle.expansions.specs.Answers.{leastPolarity, pairCharge}
+use Rattle.expansions.specs.Costs.{weight}
+use Rattle.expansions.proofs.Costs.{sum-le}
+use Rattle.expansions.proofs.Minimal.{polarity-first}
+use Rattle.lanes.specs.inner.Sizes.{Limits}
+use Rattle.lanes.specs.inner.Charges.{IsCheapest, chargeFrom}
+use Rattle.lanes.specs.declared.sizes.Sizes.{Sizes}
+use Rattle.lanes.specs.declared.charges.Cheapest.{Cheapest}
+use Rattle.lanes.proofs.charges.Used.{chargeFrom-le}
+
+-- what block j costs under its first least polarity
+abbrev leastFrom : ℕ → (ℕ → ℕ) → ℕ → ℕ
+leastFrom k lanes j = chargeFrom lanes j (leastPolarity k (chargeFrom lanes j))
+
+leastFrom-le : (k : ℕ) (lanes : ℕ → ℕ) (j : ℕ) → k ≤ 3 → j < 256 → leastFrom k lanes j ≤ 8 * weight 11
+leastFrom-le k lanes j hk hj =
+    let eight : 2 ^ k ≤ 2 ^ 3 = pow-mono hk in
+    chargeFrom-le lanes j _ hj (omega (arith, polarity-first k (chargeFrom lanes j) .below))
+
+-- the blocks below j have been passed
+pub record BlocksSummed (s : Sizes) (lanes : ℕ → ℕ) (count sum j : ℕ) : Type 0 where
+  pub sizes : Limits s
+  pub all : count ≡ 2 ^ (s .n - s .k)
+  pub within : j ≤ count
+  pub total : sum ≡ sumBelow j (leastFrom (s .k) lanes)
+
+pub blocks-none : (s : Sizes) (lanes : ℕ → ℕ) → Limits s → BlocksSummed s lanes (1 * 2 ^ (s .n - s .k) % 2 ^ 64) 0 0
+unfolding foldBelow
+blocks-none s lanes l =
+    record { sizes = l; all = one-shifted (s .n - s .k) (omega (arith, l .inputs)); within = omega arith; total = refl }
+
+module _ (s : Sizes) (lanes : ℕ → ℕ) (count sum j : ℕ) (turn : j < count) (summed : BlocksSummed s lanes count sum j) where
+  pub blocks-few : j < 256
+  blocks-few = omega (arith, summed .all, points-le (s .n - s .k) (omega (arith, summed .sizes .inputs)))
+
+  module _ (least : Cheapest) (cheapest : IsCheapest (s .k) (chargeFrom lanes j) least) where
+    pub blocks-lt : sum + least .charge < 2 ^ 31
+    unfolding weight
+    blocks-lt =
+        let one = leastFrom-le (s .k) lanes j (summed .sizes .mixed) blocks-few in
+        let rest = sum-le j (8 * weight 11) (leastFrom (s .k) lanes) (λ i l. leastFrom-le (s .k) lanes i (summed .sizes .mixed) (omega (arith, blocks-few))) in
+        omega (arith, one, rest, blocks-few, summed .total, cheapest .charge)
+
+    pub blocks-more : BlocksSummed s lanes count (sum + least .charge) (j + 1)
+    unfolding foldBelow
+    blocks-more =
+        record {
+          sizes = summed .sizes;
+          all = summed .all;
+          within = omega arith;
+          total = rw (add-one j) (ap₂ _+_ (summed .total) (cheapest .charge));
+        }
+
+pub blocks-all : (s : Sizes) (lanes : ℕ → ℕ) (count sum j : ℕ) → count ≤ j → BlocksSummed s lanes count sum j
+    → sum ≡ pairCharge (s .n) (s .k) (chargeFrom lanes)
+unfolding pairCharge
+blocks-all s lanes count sum j h b =
+    let e : j ≡ 2 ^ (s .n - s .k) = omega (arith, b .all, b .within) in
+    b .total ∙ ap (λ (x : ℕ). sumBelow x (leastFrom (s .k) lanes)) e
