@@ -19,7 +19,7 @@ use Rattle.numbers.proofs.Nonzero.{nonzero-some, nonzero-same, overNonzero-ext}
 use Rattle.numbers.proofs.Shifts.{points-le}
 use Rattle.expansions.specs.Costs.{counted}
 use Rattle.listings.specs.Parts.{bytes}
-use Rattle.listings.specs.Listing.{line, cube, outputBytes, termLine, termLines}
+use Rattle.listings.specs.Listing.{line, cube, outputBytes, cubeLine, termLine, termLines}
 use Rattle.listings.proofs.Cubes.{cube-masked}
 use Rattle.lines.specs.Rows.{listingGrammar, rows, rowLine, rowsFrom}
 use Rattle.lines.proofs.LineKinds.{rowLines, Held, rows-written, rows-read}
@@ -61,7 +61,7 @@ module _ (n m : ℕ) (t : List ℕ) (held : Held (2 ^ n) (TermValue m) t) where
 
   lines-read : rowLines (bytes "term") (λ u v. cube n u (v / 256) ∷ outputBytes m (v % 256) ∷ []) (at t) (2 ^ n)
       ≡ termLines n m (λ u. at t u / 256) (λ u. at t u % 256) (2 ^ n)
-  unfolding termLine
+  unfolding cubeLine
   lines-read = overNonzero-ext _ _ (at t) (λ u. at t u % 256) (2 ^ n) (λ u h. nonzero-same (at t u) (at t u % 256) _ (λ z. rw z) (listed u))
 
 pub term-rows-read : (n m number : ℕ) (s t : List ℕ) → n ≤ 8 → m ≤ 8 → rowsFrom (listingGrammar n m) number s ≡ rows t
@@ -100,7 +100,7 @@ value-some m t w (suc c) hm below h some = value-written m t w (suc c) hm below 
 line-written : (n m t w c : ℕ) → m ≤ 8 → c < 2 ^ m
     → ifNonzero (termValue t w c) (line (bytes "term") (cube n t (termValue t w c / 256) ∷ outputBytes m (termValue t w c % 256) ∷ []))
     ≡ ifNonzero c (termLine n m t w c)
-unfolding counted ifNonzero termLine
+unfolding counted ifNonzero cubeLine
 line-written n m t w zero hm below = refl
 line-written n m t w (suc c) hm below =
     nonzero-some (bitAnd t w * 256 + suc c) _ (λ z. omega arith)

@@ -2,7 +2,7 @@
 -- (`length-listing`).
 use lib.Pow.{pow-mono}
 use Rattle.expansions.proofs.Costs.{products-le}
-use mathlib.Core.List.{List, [], _∷_, _++_, map, append-assoc, append-nil}
+use mathlib.Core.List.{List, [], _∷_, _++_, map, map-append, append-assoc, append-nil}
 use mathlib.Core.Path.{_≡_, refl, sym, ap, _∙_}
 use Prim.Native.Nat.{ℕ, zero, suc, _+_, _*_, _^_, _≤_, _<_}
 use native.Mathlib.Decide.{ℕ-discrete}
@@ -18,7 +18,7 @@ use Rattle.expansions.specs.Costs.{counted, products}
 use Rattle.expansions.specs.Members.{polarity}
 use Rattle.search.specs.declared.expansion.Expansion.{Expansion}
 use Rattle.listings.specs.Parts.{bytes}
-use Rattle.listings.specs.Listing.{tabbed, line, digitCount, decimal, cube, outputBytes, numbersOf, formLine, termLine, termLines, listingWith, listing, productLines}
+use Rattle.listings.specs.Listing.{tabbed, line, digitCount, decimal, cube, outputBytes, numbersOf, formLine, cubeLine, cubeLines, listingAfter, listingWith, listing}
 use Rattle.listings.specs.inner.Listable.{Listable}
 use Rattle.listings.specs.inner.Lengths.{digitsOf}
 use Rattle.listings.proofs.Characters.{length-decimal, digitCount-in, length-cube, length-outputs}
@@ -45,14 +45,11 @@ unfolding digitsOf
 digitsOf-le [] = omega arith
 digitsOf-le (x ∷ xs) = omega (arith, digitsOf-le xs, digitCount-in x)
 
-numbers : List ℕ → List ℕ
-numbers xs = tabbed (map decimal xs)
-
-numbers-append : (xs ys : List ℕ) → numbers (xs ++ ys) ≡ numbers xs ++ numbers ys
-unfolding numbers tabbed
-numbers-append [] ys = refl
-numbers-append (x ∷ xs) ys =
-    ap (λ (l : List ℕ). 9 ∷ decimal x ++ l) (numbers-append xs ys) ∙ ap (λ (l : List ℕ). 9 ∷ l) (sym (append-assoc (decimal x) (numbers xs) (numbers ys)))
+pub tabbed-append : (fs gs : List (List ℕ)) → tabbed (fs ++ gs) ≡ tabbed fs ++ tabbed gs
+unfolding tabbed
+tabbed-append [] gs = refl
+tabbed-append (f ∷ fs) gs =
+    ap (λ (l : List ℕ). 9 ∷ f ++ l) (tabbed-append fs gs) ∙ ap (λ (l : List ℕ). 9 ∷ l) (sym (append-assoc f (tabbed fs) (tabbed gs)))
 
 pub length-numbers : (xs : List ℕ) → length (tabbed (map decimal xs)) ≡ length xs + digitsOf xs
 unfolding tabbed digitsOf
@@ -61,9 +58,9 @@ length-numbers (x ∷ xs) = omega (arith, length-append (decimal x) (tabbed (map
 
 pub numbers-next : (xs : List ℕ) (j : ℕ) → j < length xs
     → tabbed (map decimal (take (j + 1) xs)) ≡ tabbed (map decimal (take j xs)) ++ 9 ∷ decimal (getD xs j 0)
-unfolding numbers tabbed
+unfolding tabbed
 numbers-next xs j h =
-    rw (add-one, take-suc xs j 0 h) (numbers-append (take j xs) (getD xs j 0 ∷ []) ∙ simp append-nil)
+    rw (add-one, take-suc xs j 0 h, map-append decimal (take j xs) (getD xs j 0 ∷ [])) (tabbed-append (map decimal (take j xs)) (decimal (getD xs j 0) ∷ []) ∙ simp append-nil)
 
 -- the number at j has room after those before it
 pub numbers-room : (xs : List ℕ) (j : ℕ) → j < length xs
@@ -74,40 +71,42 @@ numbers-room xs j h =
 
 -- ---- lines
 
-pub termLine-fields : (n m t w c : ℕ)
-    → termLine n m t w c ≡ bytes "term" ++ (9 ∷ []) ++ cube n t w ++ (9 ∷ []) ++ outputBytes m c ++ (10 ∷ [])
-unfolding termLine line tabbed bytes
-termLine-fields n m t w c =
-    simp (append-assoc, append-nil) (ap (λ (l : List ℕ). bytes "term" ++ 9 ∷ l) (append-assoc (cube n t w) (9 ∷ outputBytes m c) (10 ∷ [])))
+-- a line `term` around its cube
+pub cubeLine-parts : (m : ℕ) (x : List ℕ) (c : ℕ) → cubeLine m x c ≡ (bytes "term" ++ 9 ∷ []) ++ x ++ (9 ∷ outputBytes m c ++ 10 ∷ [])
+unfolding cubeLine line tabbed bytes
+cubeLine-parts m x c = simp (append-assoc, append-nil) (ap (λ (l : List ℕ). bytes "term" ++ 9 ∷ l) (append-assoc x (9 ∷ outputBytes m c) (10 ∷ [])))
 
-pub length-termLine : (n m t w c : ℕ) → length (termLine n m t w c) ≡ 5 + n + 1 + m + 1
-unfolding termLine line tabbed bytes
-length-termLine n m t w c = simp (length-append, length-cube, length-outputs) (omega arith)
+pub length-cubeLine : (n m : ℕ) (x : List ℕ) (c : ℕ) → length x ≡ n → length (cubeLine m x c) ≡ 5 + n + 1 + m + 1
+unfolding cubeLine line tabbed bytes
+length-cubeLine n m x c h = simp (length-append, length-outputs, h) (omega arith)
 
 pub length-nonzero : (c : ℕ) (l : List ℕ) → length (ifNonzero c l) ≡ counted c 1 * length l
 unfolding ifNonzero counted
 length-nonzero zero l = omega arith
 length-nonzero (suc c) l = omega arith
 
-pub length-termLines : (n m : ℕ) (w c : ℕ → ℕ) (N : ℕ) → length (termLines n m w c N) ≡ sumBelow N (λ t. counted (c t) 1) * (5 + n + 1 + m + 1)
+-- of cubes of n characters
+pub length-cubeLines : (n m : ℕ) (x : ℕ → List ℕ) (c : ℕ → ℕ) → ((t : ℕ) → length (x t) ≡ n) → (N : ℕ)
+    → length (cubeLines m x c N) ≡ sumBelow N (λ t. counted (c t) 1) * (5 + n + 1 + m + 1)
 unfolding overNonzero foldBelow
-length-termLines n m w c zero = omega arith
-length-termLines n m w c (suc t) =
-    length-append (termLines n m w c t) (ifNonzero (c t) (termLine n m t (w t) (c t)))
-    ∙ rw (length-termLines n m w c t, length-nonzero, length-termLine) (sym (add-mul (sumBelow t (λ t. counted (c t) 1)) (counted (c t) 1) (5 + n + 1 + m + 1)))
+length-cubeLines n m x c h zero = omega arith
+length-cubeLines n m x c h (suc t) =
+    length-append (cubeLines m x c t) (ifNonzero (c t) (cubeLine m (x t) (c t)))
+    ∙ rw (length-cubeLines n m x c h t, length-nonzero, length-cubeLine n m (x t) (c t) (h t))
+    (sym (add-mul (sumBelow t (λ t. counted (c t) 1)) (counted (c t) 1) (5 + n + 1 + m + 1)))
 
 -- the lines of the terms up to t are no longer than those of all terms
-pub termLines-le : (n m : ℕ) (w c : ℕ → ℕ) (t N : ℕ) → t < N
-    → length (termLines n m w c t) + length (ifNonzero (c t) (termLine n m t (w t) (c t))) ≤ length (termLines n m w c N)
+pub cubeLines-le : (m : ℕ) (x : ℕ → List ℕ) (c : ℕ → ℕ) (t N : ℕ) → t < N
+    → length (cubeLines m x c t) + length (ifNonzero (c t) (cubeLine m (x t) (c t))) ≤ length (cubeLines m x c N)
 unfolding overNonzero
-termLines-le n m w c t zero h = absurd (not-suc-le-zero h)
-termLines-le n m w c t (suc N) h = go (ℕ-discrete t N) (λ g. termLines-le n m w c t N g) where
-  last : length (termLines n m w c (suc N)) ≡ length (termLines n m w c N) + length (ifNonzero (c N) (termLine n m N (w N) (c N)))
-  last = length-append (termLines n m w c N) (ifNonzero (c N) (termLine n m N (w N) (c N)))
+cubeLines-le m x c t zero h = absurd (not-suc-le-zero h)
+cubeLines-le m x c t (suc N) h = go (ℕ-discrete t N) (λ g. cubeLines-le m x c t N g) where
+  last : length (cubeLines m x c (suc N)) ≡ length (cubeLines m x c N) + length (ifNonzero (c N) (cubeLine m (x N) (c N)))
+  last = length-append (cubeLines m x c N) (ifNonzero (c N) (cubeLine m (x N) (c N)))
 
   go : Dec (t ≡ N)
-      → (t < N → length (termLines n m w c t) + length (ifNonzero (c t) (termLine n m t (w t) (c t))) ≤ length (termLines n m w c N))
-      → length (termLines n m w c t) + length (ifNonzero (c t) (termLine n m t (w t) (c t))) ≤ length (termLines n m w c (suc N))
+      → (t < N → length (cubeLines m x c t) + length (ifNonzero (c t) (cubeLine m (x t) (c t))) ≤ length (cubeLines m x c N))
+      → length (cubeLines m x c t) + length (ifNonzero (c t) (cubeLine m (x t) (c t))) ≤ length (cubeLines m x c (suc N))
   go (yes e) ih = rw (last, e) (omega arith)
   go (no e) ih = omega (arith, last, ih (omega arith))
 
@@ -120,38 +119,53 @@ length-formLine xs = omega (arith, length-append (tabbed (map decimal xs)) (10 �
 length-three : (a b d : List ℕ) → length (a ++ b ++ d) ≡ length a + length b + length d
 length-three a b d = omega (arith, length-append (a ++ b) d, length-append a b)
 
+-- a whole listing, by its first line
+pub length-listingAfter : (first : List ℕ) (n m : ℕ) (x : ℕ → List ℕ) (c : ℕ → ℕ) → ((t : ℕ) → length (x t) ≡ n)
+    → length (listingAfter first n m x c) ≡ length first + products n c * (5 + n + 1 + m + 1) + 4
+unfolding products line tabbed bytes
+length-listingAfter first n m x c h =
+    length-three first (cubeLines m x c (2 ^ n)) (line (bytes "end") [])
+    ∙ rw (length-cubeLines n m x c h (2 ^ n))
+
 pub length-listingWith : (numbers : List ℕ) (n m : ℕ) (w c : ℕ → ℕ)
     → length (listingWith numbers n m w c) ≡ 5 + length numbers + digitsOf numbers + products n c * (5 + n + 1 + m + 1) + 4
-unfolding listingWith products line tabbed bytes
+unfolding listingWith
 length-listingWith numbers n m w c =
-    length-three (formLine numbers) (termLines n m w c (2 ^ n)) (line (bytes "end") [])
-    ∙ rw (length-formLine numbers, length-termLines n m w c (2 ^ n))
+    length-listingAfter (formLine numbers) n m (λ t. cube n t (w t)) c (λ t. length-cube n t (w t)) ∙ rw (length-formLine numbers)
 
 pub length-listing : (n m k : ℕ) (e : Expansion) → length (listing n m k e) ≡ listingLength n m k e
 unfolding listing listingLength
 length-listing n m k e = length-listingWith (numbersOf n m k e) n m (polarity n (e .mixed) (e .fixed) (at (e .blocks))) (at (e .coefficients))
 
--- ---- the listing of a record, from the counts that it states
+-- ---- from the products that a record states
 
--- the lines of its products
-abbrev pub termsOf : ℕ → ℕ → Expansion → List ℕ
-termsOf n m e = productLines n m (e .mixed) (e .fixed) (at (e .blocks)) (at (e .coefficients))
-
-module _ (n m : ℕ) (e : Expansion) (f : Listable n m e) where
+module _ (n m p : ℕ) (c : ℕ → ℕ) (counted : p ≡ products n c) where
   width : n + m + 7 ≡ 5 + n + 1 + m + 1
   width = omega arith
 
-  pub length-products : e .products * (n + m + 7) ≡ length (termsOf n m e)
+  pub length-products : (x : ℕ → List ℕ) → ((t : ℕ) → length (x t) ≡ n) → p * (n + m + 7) ≡ length (cubeLines m x c (2 ^ n))
   unfolding products
-  length-products = rw (f .counted, width) (sym (length-termLines n m (polarity n (e .mixed) (e .fixed) (at (e .blocks))) (at (e .coefficients)) (2 ^ n)))
+  length-products x h = rw (counted, width) (sym (length-cubeLines n m x c h (2 ^ n)))
 
-  pub length-stated : (k : ℕ) → 16 + digitsOf (numbersOf n m k e) + e .products * (n + m + 7) ≡ length (listing n m k e)
-  unfolding listingLength
-  length-stated k =
-      let same : e .products * (n + m + 7) ≡ products n (at (e .coefficients)) * (5 + n + 1 + m + 1) = rw (f .counted, width) in
-      rw (length-listing n m k e) (omega arith)
+  pub length-stated : (first : List ℕ) (x : ℕ → List ℕ) → ((t : ℕ) → length (x t) ≡ n)
+      → length first + p * (n + m + 7) + 4 ≡ length (listingAfter first n m x c)
+  length-stated first x h =
+      let same : p * (n + m + 7) ≡ products n c * (5 + n + 1 + m + 1) = rw (counted, width) in
+      rw (length-listingAfter first n m x c h) (omega arith)
 
-  pub products-small : e .products * (n + m + 7) ≤ 5888
-  products-small =
-      let most : e .products ≤ 256 = omega (arith, f .counted, products-le n (at (e .coefficients)), pow-mono {i = n} {j = 8} (f .inputs)) in
-      mul-le-mul {n₁ = e .products} {m₁ = n + m + 7} {n₂ = 256} {m₂ = 23} most (omega (arith, f .inputs, f .outputs))
+  pub products-small : n ≤ 8 → m ≤ 8 → p * (n + m + 7) ≤ 5888
+  products-small hn hm =
+      let most : p ≤ 256 = omega (arith, counted, products-le n c, pow-mono {i = n} {j = 8} hn) in
+      mul-le-mul {n₁ = p} {m₁ = n + m + 7} {n₂ = 256} {m₂ = 23} most (omega arith)
+
+-- the length of a record's listing, from the digits of its numbers and the products that it states
+pub listing-stated : (n m k : ℕ) (e : Expansion) → Listable n m e
+    → 16 + digitsOf (numbersOf n m k e) + e .products * (n + m + 7) ≡ length (listing n m k e)
+unfolding listing listingWith
+listing-stated n m k e f =
+    omega (
+      arith,
+      length-stated n m (e .products) (at (e .coefficients)) (f .counted) (formLine (numbersOf n m k e))
+          (λ t. cube n t (polarity n (e .mixed) (e .fixed) (at (e .blocks)) t)) (λ t. length-cube n t _),
+      length-formLine (numbersOf n m k e),
+    )

@@ -7,3 +7,4 @@ pub mod Cubes
 pub mod Meaning
 pub mod Longest
 pub mod ListedAnswers
+pub mod Kronecker

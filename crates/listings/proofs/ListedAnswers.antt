@@ -6,7 +6,10 @@ use Rattle.numbers.specs.Bytes.{at}
 use Rattle.search.proofs.expansion.Answer.{Answered}
 use Rattle.search.specs.declared.expansion.Expansion.{Expansion}
 use Rattle.expansions.specs.Members.{polarity}
+use Rattle.expansions.specs.declared.kinds.Kind.the-variants.{Block}
+use Rattle.expansions.specs.Rivals.{NoDearer}
 use Rattle.expansions.proofs.Costs.{literals-lt}
+use Rattle.expansions.proofs.Rivals.{block-rivals}
 use Rattle.listings.specs.Listing.{numbersOf, listing}
 use Rattle.listings.specs.inner.Listable.{Listable}
 use Rattle.listings.specs.Meaning.{listingValue, listingProducts, listingLiterals, IsListing}
@@ -36,11 +39,12 @@ module _ (n m k : ℕ) (e : Expansion) (f : ℕ → ℕ) (hn : n ≤ 8) (hm : m 
   counts-literals = listing-literals (numbersOf n m k e) n m w (at (e .coefficients)) ∙ sym (minimal .literals-counted)
 
   -- demand 3
-  pub answer-listed : ((t : ℕ) → t < 2 ^ n → at (e .coefficients) t < 2 ^ m) → IsListing n k f (listing n m k e)
+  pub answer-listed : ((t : ℕ) → t < 2 ^ n → at (e .coefficients) t < 2 ^ m) → IsListing n (Block k) f (listing n m k e)
   answer-listed small =
       record {
         gives = answer-given small;
         products-stated = stated-products n m k e answer-listable (omega arith) few ∙ sym counts-products;
         literals-stated = stated-literals n m k e answer-listable (omega arith) few ∙ sym counts-literals;
-        cheapest = λ M i φ c member gives. rw (counts-products, counts-literals) (minimal .cheapest M i φ c member gives);
+        cheapest =
+            rw (counts-products, counts-literals) (block-rivals n k f (NoDearer (e .products) (e .literals)) (minimal .cheapest));
       }

@@ -1,23 +1,23 @@
 -- What the listing of an expansion means, read from its bytes alone: at every point the value of the expansion (`listing-value`), as many
 -- products and literals as it has (`listing-products`, `listing-literals`), their cubes (`listing-cubes`), and the numbers of its record on the first line
 -- (`listing-numbers`).
-use mathlib.Core.Bool.{Bool, cond}
+use mathlib.Core.Bool.{Bool, false, cond}
 use mathlib.Core.List.{List, [], _∷_, _++_, map, append-assoc, append-nil}
 use mathlib.Core.Path.{_≡_, refl, sym, ap, _∙_}
-use Prim.Native.Nat.{ℕ, zero, suc, _+_, _/_, _%_, _^_, _≤_, _<_}
+use Prim.Native.Nat.{ℕ, zero, suc, _+_, _-_, _/_, _%_, _^_, _≤_, _<_}
 use native.Mathlib.Decide.{ℕ-discrete}
 use native.Mathlib.Nat.{add-assoc, add-zero, zero-add}
 use native.Mathlib.Omega.{arith}
 use lib.Bits.{bitXor, xor-comm, xor-zero-r}
 use lib.Dec.{lit<}
-use lib.ListN.{getD}
+use lib.ListN.{length, getD}
 use lib.Pow.{pow-mono}
 use Rattle.numbers.specs.Bytes.{at}
 use Rattle.numbers.specs.Nonzero.{ifNonzero, overNonzero}
-use Rattle.numbers.specs.Sums.{foldBelow}
+use Rattle.numbers.specs.Sums.{foldBelow, xorBelow, sumBelow}
 use Rattle.numbers.specs.Bits.{bit}
 use Rattle.numbers.specs.Tests.{only}
-use Rattle.algebra.specs.Terms.{holds, value}
+use Rattle.algebra.specs.Terms.{value}
 use Rattle.numbers.proofs.Nonzero.{nonzero-none, nonzero-some}
 use Rattle.numbers.proofs.Sums.{fold-ext}
 use Rattle.numbers.proofs.Tests.{only-zero}
@@ -28,7 +28,7 @@ use Rattle.search.specs.declared.expansion.Expansion.{Expansion}
 use Rattle.expansions.proofs.Counted.{counted-none, counted-some}
 use Rattle.expansions.proofs.Costs.{products-le}
 use Rattle.listings.specs.Parts.{parts, bytes, same, fields}
-use Rattle.listings.specs.Listing.{tabbed, line, digitCount, decimal, cubeByte, cube, outputBytes, numbersOf, formLine, termLine, termLines, printedCubes, listingWith, listing}
+use Rattle.listings.specs.Listing.{tabbed, line, digitCount, decimal, cubeByte, cube, outputBytes, numbersOf, formLine, cubeLine, cubeLines, printedCubes, listingAfter, listingWith, listing}
 use Rattle.listings.specs.inner.Listable.{Listable}
 use Rattle.listings.specs.Meaning.{cubeTrue, literalsIn, outputsSaid, finished, linesOf, ofTerm, overLines, overTerms}
 use Rattle.listings.specs.Meaning.{listingValue, listingProducts, listingLiterals, listingCubes, numberSaid, firstNumbers, statedProducts, statedLiterals}
@@ -71,6 +71,12 @@ pub plain-end : Plain (bytes "end")
 unfolding bytes
 plain-end = (lit< tt, (lit< tt, (lit< tt, tt)))
 
+-- a first line that can be parted into its fields, and is no line `term`
+pub record Heading (word : List ℕ) (fs : List (List ℕ)) : Type 0 where
+  pub plain-word : Plain word
+  pub plain-fields : AllPlain fs
+  pub other : same word (bytes "term") ≡ false
+
 -- ---- what is joined over the `term` lines
 
 module _ {A : Type 0} (op : A → A → A) (none : A) (assoc : (a b c : A) → op (op a b) c ≡ op a (op b c))
@@ -80,66 +86,71 @@ module _ {A : Type 0} (op : A → A → A) (none : A) (assoc : (a b c : A) → o
   unfolding overTerms overLines ofTerm fields linesOf finished
   over-line word fs s p ps = rw (parts-lines word fs s p ps, parts-fields word fs p ps)
 
-  over-term : (n m t w c : ℕ) (s : List ℕ) → overTerms op none g (termLine n m t w c ++ s) ≡ op (g (cube n t w) (outputBytes m c)) (overTerms op none g s)
-  unfolding termLine bytes same
-  over-term n m t w c s = over-line (bytes "term") (cube n t w ∷ outputBytes m c ∷ []) s plain-term (plain-cube n t w, (plain-outputs m c, tt))
+  over-cube : (m : ℕ) (x : List ℕ) (c : ℕ) (s : List ℕ) → Plain x → overTerms op none g (cubeLine m x c ++ s) ≡ op (g x (outputBytes m c)) (overTerms op none g s)
+  unfolding cubeLine bytes same
+  over-cube m x c s p = over-line (bytes "term") (x ∷ outputBytes m c ∷ []) s plain-term (p, (plain-outputs m c, tt))
 
   over-end : overTerms op none g (line (bytes "end") []) ≡ none
   unfolding line tabbed bytes same overTerms overLines linesOf finished parts
   over-end = over-line (bytes "end") [] [] plain-end tt ∙ left none
 
   -- what starts at `none`, and at each product takes up what is said of its line, is what is said of all lines
-  module _ (n m : ℕ) (w c : ℕ → ℕ) (whole : ℕ → A) (start : whole 0 ≡ none) (keep : (t : ℕ) → c t ≡ 0 → whole (suc t) ≡ whole t)
-      (more : (t : ℕ) → (c t ≡ 0 → ⊥) → whole (suc t) ≡ op (whole t) (g (cube n t (w t)) (outputBytes m (c t)))) where
-    over-terms : (N : ℕ) (s : List ℕ) → overTerms op none g (termLines n m w c N ++ s) ≡ op (whole N) (overTerms op none g s)
+  module _ (m : ℕ) (x : ℕ → List ℕ) (c : ℕ → ℕ) (plain : (t : ℕ) → Plain (x t)) (whole : ℕ → A) (start : whole 0 ≡ none)
+      (keep : (t : ℕ) → c t ≡ 0 → whole (suc t) ≡ whole t)
+      (more : (t : ℕ) → (c t ≡ 0 → ⊥) → whole (suc t) ≡ op (whole t) (g (x t) (outputBytes m (c t)))) where
+    over-cubes : (N : ℕ) (s : List ℕ) → overTerms op none g (cubeLines m x c N ++ s) ≡ op (whole N) (overTerms op none g s)
     unfolding overNonzero
-    over-terms zero s = sym (ap (λ (a : A). op a (overTerms op none g s)) start ∙ left (overTerms op none g s))
-    over-terms (suc t) s = go (ℕ-discrete (c t) 0) (over-terms t s) (over-terms t (termLine n m t (w t) (c t) ++ s)) where
+    over-cubes zero s = sym (ap (λ (a : A). op a (overTerms op none g s)) start ∙ left (overTerms op none g s))
+    over-cubes (suc t) s = go (ℕ-discrete (c t) 0) (over-cubes t s) (over-cubes t (cubeLine m (x t) (c t) ++ s)) where
       l : List ℕ
-      l = termLine n m t (w t) (c t)
+      l = cubeLine m (x t) (c t)
 
-      go : Dec (c t ≡ 0) → overTerms op none g (termLines n m w c t ++ s) ≡ op (whole t) (overTerms op none g s)
-          → overTerms op none g (termLines n m w c t ++ (l ++ s)) ≡ op (whole t) (overTerms op none g (l ++ s))
-          → overTerms op none g ((termLines n m w c t ++ ifNonzero (c t) l) ++ s) ≡ op (whole (suc t)) (overTerms op none g s)
+      go : Dec (c t ≡ 0) → overTerms op none g (cubeLines m x c t ++ s) ≡ op (whole t) (overTerms op none g s)
+          → overTerms op none g (cubeLines m x c t ++ (l ++ s)) ≡ op (whole t) (overTerms op none g (l ++ s))
+          → overTerms op none g ((cubeLines m x c t ++ ifNonzero (c t) l) ++ s) ≡ op (whole (suc t)) (overTerms op none g s)
       go (yes z) here next =
-          rw (nonzero-none (c t) l z, append-nil (termLines n m w c t)) here ∙ ap (λ (a : A). op a (overTerms op none g s)) (sym (keep t z))
+          rw (nonzero-none (c t) l z, append-nil (cubeLines m x c t)) here ∙ ap (λ (a : A). op a (overTerms op none g s)) (sym (keep t z))
       go (no z) here next =
-          rw (nonzero-some (c t) l z, append-assoc (termLines n m w c t) l s)
-          (next ∙ ap (op (whole t)) (over-term n m t (w t) (c t) s) ∙ sym (assoc _ _ _) ∙ ap (λ (a : A). op a (overTerms op none g s)) (sym (more t z)))
+          rw (nonzero-some (c t) l z, append-assoc (cubeLines m x c t) l s)
+          (next ∙ ap (op (whole t)) (over-cube m (x t) (c t) s (plain t)) ∙ sym (assoc _ _ _) ∙ ap (λ (a : A). op a (overTerms op none g s)) (sym (more t z)))
 
-    pub over-listing : (numbers : List ℕ) → overTerms op none g (listingWith numbers n m w c) ≡ whole (2 ^ n)
-    unfolding listingWith formLine bytes same
-    over-listing numbers =
-        let terms : List ℕ = termLines n m w c (2 ^ n) in
-        ap (overTerms op none g) (append-assoc (formLine numbers) terms (line (bytes "end") []))
-        ∙ over-line (bytes "form") (map decimal numbers) (terms ++ line (bytes "end") []) plain-form (plain-numbers numbers)
-        ∙ left (overTerms op none g (terms ++ line (bytes "end") []))
-        ∙ over-terms (2 ^ n) (line (bytes "end") [])
+    over-listing : (word : List ℕ) (fs : List (List ℕ)) (n : ℕ) → Heading word fs → overTerms op none g (listingAfter (line word fs) n m x c) ≡ whole (2 ^ n)
+    over-listing word fs n h =
+        let terms : List ℕ = cubeLines m x c (2 ^ n) in
+        ap (overTerms op none g) (append-assoc (line word fs) terms (line (bytes "end") []))
+        ∙ over-line word fs (terms ++ line (bytes "end") []) (h .plain-word) (h .plain-fields)
+        ∙ rw (h .other) (left (overTerms op none g (terms ++ line (bytes "end") [])))
+        ∙ over-cubes (2 ^ n) (line (bytes "end") [])
         ∙ rw over-end (right _)
 
 -- as numbers: each product counts what is said of its line
 over-counted : (op : ℕ → ℕ → ℕ) → ((a b c : ℕ) → op (op a b) c ≡ op a (op b c)) → ((a : ℕ) → op 0 a ≡ a) → ((a : ℕ) → op a 0 ≡ a)
-    → (g : List ℕ → List ℕ → ℕ) (numbers : List ℕ) (n m : ℕ) (w c : ℕ → ℕ)
-    → overTerms op 0 g (listingWith numbers n m w c) ≡ foldBelow op (2 ^ n) (λ t. counted (c t) (g (cube n t (w t)) (outputBytes m (c t))))
+    → (g : List ℕ → List ℕ → ℕ) (word : List ℕ) (fs : List (List ℕ)) → Heading word fs → (n m : ℕ) (x : ℕ → List ℕ) (c : ℕ → ℕ) → ((t : ℕ) → Plain (x t))
+    → overTerms op 0 g (listingAfter (line word fs) n m x c) ≡ foldBelow op (2 ^ n) (λ t. counted (c t) (g (x t) (outputBytes m (c t))))
 unfolding foldBelow
-over-counted op assoc left right g numbers n m w c =
-    over-listing op 0 assoc left right g n m w c (λ N. foldBelow op N part) refl
+over-counted op assoc left right g word fs h n m x c plain =
+    over-listing op 0 assoc left right g m x c plain (λ N. foldBelow op N part) refl
     (λ t z. ap (op (foldBelow op t part)) (counted-none (c t) (said t) z) ∙ right (foldBelow op t part))
-    (λ t z. ap (op (foldBelow op t part)) (counted-some (c t) (said t) z)) numbers
+    (λ t z. ap (op (foldBelow op t part)) (counted-some (c t) (said t) z)) word fs n h
   where
     said : ℕ → ℕ
-    said t = g (cube n t (w t)) (outputBytes m (c t))
+    said t = g (x t) (outputBytes m (c t))
 
     part : ℕ → ℕ
     part t = counted (c t) (said t)
 
+-- the first line of a `form` listing
+form-heading : (numbers : List ℕ) → Heading (bytes "form") (map decimal numbers)
+unfolding bytes same
+form-heading numbers = record { plain-word = plain-form; plain-fields = plain-numbers numbers; other = refl }
+
 -- the cubes, one for each product
 pub listing-cubes : (numbers : List ℕ) (n m : ℕ) (w c : ℕ → ℕ) → listingCubes (listingWith numbers n m w c) ≡ printedCubes n w c
-unfolding listingCubes overNonzero
+unfolding listingCubes overNonzero listingWith formLine
 listing-cubes numbers n m w c =
-    over-listing _++_ [] append-assoc (λ a. refl) append-nil (λ x outputs. x ∷ []) n m w c cubes refl
+    over-listing _++_ [] append-assoc (λ a. refl) append-nil (λ x outputs. x ∷ []) m (λ t. cube n t (w t)) c (λ t. plain-cube n t (w t)) cubes refl
     (λ t z. ap (λ (l : List (List ℕ)). cubes t ++ l) (nonzero-none (c t) (cube n t (w t) ∷ []) z) ∙ append-nil (cubes t))
-    (λ t z. ap (λ (l : List (List ℕ)). cubes t ++ l) (nonzero-some (c t) (cube n t (w t) ∷ []) z)) numbers
+    (λ t z. ap (λ (l : List (List ℕ)). cubes t ++ l) (nonzero-some (c t) (cube n t (w t) ∷ []) z)) (bytes "form") (map decimal numbers) n (form-heading numbers)
   where
     cubes : ℕ → List (List ℕ)
     cubes N = overNonzero (λ t. cube n t (w t) ∷ []) c N
@@ -151,25 +162,41 @@ unfolding counted
 counted-only zero b = sym (only-zero b)
 counted-only (suc c) b = refl
 
+-- of any listing, whatever its first line and its cubes
+module _ (word : List ℕ) (fs : List (List ℕ)) (h : Heading word fs) (n m : ℕ) (x : ℕ → List ℕ) (c : ℕ → ℕ) (plain : (t : ℕ) → Plain (x t)) where
+  pub cubes-value : ((t : ℕ) → t < 2 ^ n → c t < 2 ^ m) → (p : ℕ)
+      → listingValue (listingAfter (line word fs) n m x c) p ≡ xorBelow (2 ^ n) (λ t. only (cubeTrue (x t) p) (c t))
+  unfolding listingValue
+  cubes-value small p =
+      over-counted bitXor xor-assoc (λ a. xor-comm 0 a ∙ xor-zero-r a) xor-zero-r (λ cube outputs. only (cubeTrue cube p) (outputsSaid outputs)) word fs h n m x c plain
+      ∙ fold-ext bitXor (2 ^ n) _ _ (λ t l. rw (outputs-said m (c t) (small t l)) (counted-only (c t) (cubeTrue (x t) p)))
+
+  pub cubes-products : listingProducts (listingAfter (line word fs) n m x c) ≡ products n c
+  unfolding listingProducts products
+  cubes-products = over-counted _+_ add-assoc zero-add add-zero (λ cube outputs. 1) word fs h n m x c plain
+
+  pub cubes-literals : listingLiterals (listingAfter (line word fs) n m x c) ≡ sumBelow (2 ^ n) (λ t. counted (c t) (literalsIn (x t)))
+  unfolding listingLiterals
+  cubes-literals = over-counted _+_ add-assoc zero-add add-zero (λ cube outputs. literalsIn cube) word fs h n m x c plain
+
 module _ (numbers : List ℕ) (n m : ℕ) (w c : ℕ → ℕ) where
+  x : ℕ → List ℕ
+  x t = cube n t (w t)
+
   pub listing-value : ((t : ℕ) → t < 2 ^ n → c t < 2 ^ m) → (p : ℕ) → listingValue (listingWith numbers n m w c) p ≡ value n w c p
-  unfolding listingValue value
+  unfolding value listingWith formLine x
   listing-value small p =
-      over-counted bitXor xor-assoc (λ a. xor-comm 0 a ∙ xor-zero-r a) xor-zero-r (λ cube outputs. only (cubeTrue cube p) (outputsSaid outputs)) numbers n m w c
-      ∙ fold-ext bitXor (2 ^ n) _ _ same-term
-    where
-      same-term : (t : ℕ) → t < 2 ^ n
-          → counted (c t) (only (cubeTrue (cube n t (w t)) p) (outputsSaid (outputBytes m (c t)))) ≡ only (holds t (w t) p) (c t)
-      same-term t l = rw (cube-holds n t (w t) p l, outputs-said m (c t) (small t l)) (counted-only (c t) (holds t (w t) p))
+      cubes-value (bytes "form") (map decimal numbers) (form-heading numbers) n m x c (λ t. plain-cube n t (w t)) small p
+      ∙ fold-ext bitXor (2 ^ n) _ _ (λ t l. ap (λ (b : Bool). only b (c t)) (cube-holds n t (w t) p l))
 
   pub listing-products : listingProducts (listingWith numbers n m w c) ≡ products n c
-  unfolding listingProducts products
-  listing-products = over-counted _+_ add-assoc zero-add add-zero (λ cube outputs. 1) numbers n m w c
+  unfolding listingWith formLine x
+  listing-products = cubes-products (bytes "form") (map decimal numbers) (form-heading numbers) n m x c (λ t. plain-cube n t (w t))
 
   pub listing-literals : listingLiterals (listingWith numbers n m w c) ≡ literals n c
-  unfolding listingLiterals literals
+  unfolding literals listingWith formLine x
   listing-literals =
-      over-counted _+_ add-assoc zero-add add-zero (λ cube outputs. literalsIn cube) numbers n m w c
+      cubes-literals (bytes "form") (map decimal numbers) (form-heading numbers) n m x c (λ t. plain-cube n t (w t))
       ∙ fold-ext _+_ (2 ^ n) _ _ (λ t l. ap (λ (x : ℕ). counted (c t) x) (cube-literals n t _ l))
 
 -- ---- the numbers of the first line
@@ -183,17 +210,20 @@ pub numbers-said : (xs : List ℕ) → Small xs → map (numberSaid 0) (map deci
 numbers-said [] h = refl
 numbers-said (x ∷ xs) h = rw (decimal-said x (h .0), numbers-said xs (h .1))
 
--- the numbers that a listing states on its first line
+-- what the fields of a first line say, as numbers
+pub heading-numbers : (word : List ℕ) (fs : List (List ℕ)) → Heading word fs → (n m : ℕ) (x : ℕ → List ℕ) (c : ℕ → ℕ)
+    → firstNumbers (listingAfter (line word fs) n m x c) ≡ map (numberSaid 0) fs
+unfolding firstNumbers
+heading-numbers word fs h n m x c =
+    let after : List ℕ = cubeLines m x c (2 ^ n) ++ line (bytes "end") [] in
+    ap firstNumbers (append-assoc (line word fs) (cubeLines m x c (2 ^ n)) (line (bytes "end") []))
+    ∙ rw (parts-lines word fs after (h .plain-word) (h .plain-fields), parts-fields word fs (h .plain-word) (h .plain-fields))
+
+-- the numbers that a `form` listing states on its first line
 pub listing-numbers : (numbers : List ℕ) (n m : ℕ) (w c : ℕ → ℕ) → Small numbers → firstNumbers (listingWith numbers n m w c) ≡ numbers
-unfolding firstNumbers listingWith formLine
+unfolding listingWith formLine
 listing-numbers numbers n m w c small =
-    let after : List ℕ = termLines n m w c (2 ^ n) ++ line (bytes "end") [] in
-    ap firstNumbers (append-assoc (formLine numbers) (termLines n m w c (2 ^ n)) (line (bytes "end") []))
-    ∙ rw (
-      parts-lines (bytes "form") (map decimal numbers) after plain-form (plain-numbers numbers),
-      parts-fields (bytes "form") (map decimal numbers) plain-form (plain-numbers numbers),
-    )
-    (numbers-said numbers small)
+    heading-numbers (bytes "form") (map decimal numbers) (form-heading numbers) n m (λ t. cube n t (w t)) c ∙ numbers-said numbers small
 
 module _ (n m k : ℕ) (e : Expansion) (f : Listable n m e) (digit : k < 10) (few : e .literals < 10000) where
   small-numbers : Small (numbersOf n m k e)
@@ -208,7 +238,7 @@ module _ (n m k : ℕ) (e : Expansion) (f : Listable n m e) (digit : k < 10) (fe
   stated-numbers = listing-numbers (numbersOf n m k e) n m (polarity n (e .mixed) (e .fixed) (at (e .blocks))) (at (e .coefficients)) small-numbers
 
   pub stated-products : statedProducts (listing n m k e) ≡ e .products
-  stated-products = ap (λ (xs : List ℕ). getD xs 5 0) stated-numbers
+  stated-products = ap (λ (xs : List ℕ). getD xs (length xs - 2) 0) stated-numbers
 
   pub stated-literals : statedLiterals (listing n m k e) ≡ e .literals
-  stated-literals = ap (λ (xs : List ℕ). getD xs 6 0) stated-numbers
+  stated-literals = ap (λ (xs : List ℕ). getD xs (length xs - 1) 0) stated-numbers

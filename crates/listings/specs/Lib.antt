@@ -1,4 +1,5 @@
 pub mod Parts
 pub mod Listing
+pub mod Kronecker
 pub mod Meaning
 pub mod inner

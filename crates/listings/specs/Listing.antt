@@ -63,14 +63,22 @@ numbersOf n m k e = n ∷ m ∷ k ∷ e .mixed ∷ e .fixed ∷ e .products ∷ 
 unfoldable pub formLine : List ℕ → List ℕ
 formLine numbers = line (bytes "form") (map decimal numbers)
 
--- "`term`, cube, outputs": the term t under the polarity w, with the coefficient c
-unfoldable pub termLine : ℕ → ℕ → ℕ → ℕ → ℕ → List ℕ
-termLine n m t w c = line (bytes "term") (cube n t w ∷ outputBytes m c ∷ [])
+-- "`term`, cube, outputs": the cube x, with the coefficient c
+unfoldable pub cubeLine : ℕ → List ℕ → ℕ → List ℕ
+cubeLine m x c = line (bytes "term") (x ∷ outputBytes m c ∷ [])
 
--- the lines of the products among the terms below N, "ascending by t"; w t is the polarity of the term t, and c t its coefficient: "Products
--- are the terms with c[t] not 0"
+-- the line of the term t under the polarity w, with the coefficient c
+abbrev pub termLine : ℕ → ℕ → ℕ → ℕ → ℕ → List ℕ
+termLine n m t w c = cubeLine m (cube n t w) c
+
+-- the lines of the products among the terms below N, "ascending by t"; x t is the cube of the term t, and c t its coefficient: "Products are the
+-- terms with c[t] not 0"
+abbrev pub cubeLines : ℕ → (ℕ → List ℕ) → (ℕ → ℕ) → ℕ → List ℕ
+cubeLines m x c N = overNonzero (λ t. cubeLine m (x t) (c t)) c N
+
+-- the same lines, where w t is the polarity of the term t
 abbrev pub termLines : ℕ → ℕ → (ℕ → ℕ) → (ℕ → ℕ) → ℕ → List ℕ
-termLines n m w c N = overNonzero (λ t. termLine n m t (w t) (c t)) c N
+termLines n m w c N = cubeLines m (λ t. cube n t (w t)) c N
 
 -- "One line for each product, ascending by t", of the member M, i, φ with the coefficients c
 abbrev pub productLines : ℕ → ℕ → ℕ → ℕ → (ℕ → ℕ) → (ℕ → ℕ) → List ℕ
@@ -80,9 +88,13 @@ productLines n m M i φ c = termLines n m (polarity n M i φ) c (2 ^ n)
 abbrev pub printedCubes : ℕ → (ℕ → ℕ) → (ℕ → ℕ) → List (List ℕ)
 printedCubes n w c = overNonzero (λ t. cube n t (w t) ∷ []) c (2 ^ n)
 
+-- a whole listing: its first line, the lines of the products among 2 ^ n terms, and "`end`"
+abbrev pub listingAfter : List ℕ → ℕ → ℕ → (ℕ → List ℕ) → (ℕ → ℕ) → List ℕ
+listingAfter first n m x c = first ++ cubeLines m x c (2 ^ n) ++ line (bytes "end") []
+
 -- a whole listing with these numbers on its first line, of n inputs and m outputs: each term t has the polarity w t and the coefficient c t
 unfoldable pub listingWith : List ℕ → ℕ → ℕ → (ℕ → ℕ) → (ℕ → ℕ) → List ℕ
-listingWith numbers n m w c = formLine numbers ++ termLines n m w c (2 ^ n) ++ line (bytes "end") []
+listingWith numbers n m w c = listingAfter (formLine numbers) n m (λ t. cube n t (w t)) c
 
 -- the whole listing of the expansion e, of n inputs, m outputs and k mixed inputs
 unfoldable pub listing : ℕ → ℕ → ℕ → Expansion → List ℕ

@@ -2,14 +2,14 @@
 use mathlib.Core.Path.{_≡_}
 use mathlib.Core.Bool.{Bool, true, cond, _&&_}
 use mathlib.Core.List.{List, [], _∷_, _++_, map}
-use Prim.Native.Nat.{ℕ, _+_, _-_, _*_, _<_, _^_, _≤_}
+use Prim.Native.Nat.{ℕ, _+_, _-_, _*_, _<_, _^_}
 use lib.Bits.{bitXor}
 use lib.Dec.{eqb}
 use lib.ListN.{length, getD}
 use Rattle.numbers.specs.Bits.{bit}
 use Rattle.numbers.specs.Tests.{only}
-use Rattle.expansions.specs.Members.{Member, Gives}
-use Rattle.expansions.specs.Costs.{products, literals}
+use Rattle.expansions.specs.declared.kinds.Kind.{Kind}
+use Rattle.expansions.specs.Rivals.{Rival, NoDearer}
 use Rattle.listings.specs.Parts.{parts, bytes, same, field}
 
 -- ---- the fields of a `term` line
@@ -93,22 +93,21 @@ statedMixed s = getD (firstNumbers s) 3 0
 abbrev pub statedFixed : List ℕ → ℕ
 statedFixed s = getD (firstNumbers s) 4 0
 
--- the products that the first line states
+-- the products that the first line states, whatever its word: its last number but one
 abbrev pub statedProducts : List ℕ → ℕ
-statedProducts s = getD (firstNumbers s) 5 0
+statedProducts s = getD (firstNumbers s) (length (firstNumbers s) - 2) 0
 
--- the literals that the first line states
+-- the literals that the first line states: its last number
 abbrev pub statedLiterals : List ℕ → ℕ
-statedLiterals s = getD (firstNumbers s) 6 0
+statedLiterals s = getD (firstNumbers s) (length (firstNumbers s) - 1) 0
 
 -- ---- demand 3
 
--- Demand 3 of the bytes of a listing for the table f: "The listing's own lines give every output at every point; its first-line counts are
+-- Demand 3 of the bytes of a listing for the table f, at each kind of k: "The listing's own lines give every output at every point; its first-line counts are
 -- those of its lines; and every other expansion of the class at that k that gives the same outputs has at least as many products, and where
 -- as many, at least as many literals."
-pub record IsListing (n k : ℕ) (f : ℕ → ℕ) (bytes : List ℕ) : Type 0 where
+pub record IsListing (n : ℕ) (kind : Kind) (f : ℕ → ℕ) (bytes : List ℕ) : Type 0 where
   pub gives : (p : ℕ) → p < 2 ^ n → listingValue bytes p ≡ f p
   pub products-stated : statedProducts bytes ≡ listingProducts bytes
   pub literals-stated : statedLiterals bytes ≡ listingLiterals bytes
-  pub cheapest : (M i : ℕ) (φ c : ℕ → ℕ) → Member n k M i φ → Gives n M i φ c f
-      → (listingProducts bytes ≤ products n c) × (listingProducts bytes ≡ products n c → listingLiterals bytes ≤ literals n c)
+  pub cheapest : (p l : ℕ) → Rival n f kind p l → NoDearer (listingProducts bytes) (listingLiterals bytes) p l

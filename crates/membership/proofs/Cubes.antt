@@ -15,7 +15,7 @@ use Rattle.numbers.proofs.Nonzero.{nonzero-ext, overNonzero-ext, overNonzero-sa
 use Rattle.numbers.proofs.Sums.{fold-ext}
 use Rattle.numbers.proofs.Tests.{only-zero}
 use Rattle.algebra.specs.Terms.{holds, value}
-use Rattle.listings.specs.Listing.{line, cube, outputBytes, termLine, termLines, printedCubes}
+use Rattle.listings.specs.Listing.{line, cube, outputBytes, cubeLine, termLine, termLines, printedCubes}
 use Rattle.listings.specs.Parts.{bytes}
 use Rattle.listings.proofs.Cubes.{cube-masked}
 use Rattle.lines.specs.Cubes.{termShown, complementShown}
@@ -36,7 +36,7 @@ module _ (t w w′ : ℕ) (e : bitAnd t w ≡ bitAnd t w′) where
   cube-shown n = sym (cube-masked n t w) ∙ ap (cube n t) e ∙ cube-masked n t w′
 
   termLine-shown : (n m c : ℕ) → termLine n m t w c ≡ termLine n m t w′ c
-  unfolding termLine
+  unfolding cubeLine
   termLine-shown n m c = ap (λ (x : List ℕ). line (bytes "term") (x ∷ outputBytes m c ∷ [])) (cube-shown n)
 
   holds-shown : (p : ℕ) → holds t w p ≡ holds t w′ p

@@ -24,7 +24,7 @@ pub fn digits_of(numbers: &[usize]) -> usize
 }
 
 // The numbers, each after a tab.
-fn write_numbers(start: Writer, out: &mut [u8], numbers: &[usize]) -> Writer
+pub fn write_numbers(start: Writer, out: &mut [u8], numbers: &[usize]) -> Writer
     requires { ⌜ (length (now numbers) ≤ 7) × (start .at + (length (now numbers) + digitsOf (now numbers)) ≤ length (now out)) ⌝ }
     ensures { λ r. ⌜ Put (now (out .entry)) (start .at) (tabbed (map decimal (now (numbers .entry)))) (now (out .exit)) (r .at) ⌝ }
 {

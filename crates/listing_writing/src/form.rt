@@ -1,0 +1,97 @@
+// Writing the listing of an expansion of document 01's class: `form`, a line for each product, `end`.
+use crate::listed::Listed;
+use crate::terms::TERM;
+use crate::terms::begin_term;
+use crate::terms::end_term;
+use crate::terms::write_end;
+use search::expansion::Expansion;
+use search::polarity::term_polarity;
+use writing::line::digits_of;
+use writing::line::write_line;
+use writing::writer::Writer;
+ghost use Prim.Native.Nat.{_+_, _*_, _^_, _≤_, _<_};
+ghost use lib.ListN.{length};
+ghost use Rattle.numbers.specs.Bytes.{at};
+ghost use Rattle.numbers.specs.Nonzero.{ifNonzero};
+ghost use Rattle.listings.specs.Listing.{formLine, termLine, productLines, listing};
+ghost use Rattle.listings.specs.inner.Listable.{Listable};
+ghost use Rattle.listings.specs.inner.Lengths.{digitsOf};
+ghost use Rattle.writing.specs.Put.{Put};
+ghost use Rattle.listing_writing.specs.Write.{WriteListing};
+
+// The bytes of the first and the last line that are no digits: two words, seven tabs and two line ends.
+const FRAME: usize = 16;
+
+// The first line: `form` and the numbers.
+fn write_form(start: Writer, out: &mut [u8], numbers: &[usize]) -> Writer
+    requires { ⌜ (length (now numbers) ≤ 7) × (start .at + (5 + length (now numbers) + digitsOf (now numbers)) ≤ length (now out)) ⌝ }
+    ensures { λ r. ⌜ Put (now (out .entry)) (start .at) (formLine (now (numbers .entry))) (now (out .exit)) (r .at) ⌝ }
+{
+    write_line(start, out, b"form", numbers)
+}
+
+// The line of the term t under the polarity w, where its coefficient c is not 0, and nothing where it is.
+fn write_term(
+    start: Writer,
+    out: &mut [u8],
+    n: usize,
+    m: usize,
+    t: usize,
+    w: usize,
+    c: u8,
+) -> Writer
+    requires { ⌜ (n ≤ 8) × (m ≤ 8) × (start .at + length (ifNonzero c (termLine n m t w c)) ≤ length (now out)) ⌝ }
+    ensures { λ r. ⌜ Put (now (out .entry)) (start .at) (ifNonzero c (termLine n m t w c)) (now (out .exit)) (r .at) ⌝ }
+{
+    if c == 0 {
+        return start;
+    }
+    let cube = begin_term(start, out);
+    end_term(cube.cube(out, n, t, w), out, m, c)
+}
+
+// The lines of the products, ascending by term.
+fn write_terms(
+    start: Writer,
+    out: &mut [u8],
+    n: usize,
+    m: usize,
+    mixed: usize,
+    fixed: usize,
+    coefficients: &[u8; Expansion::PLACES],
+    blocks: &[u8; Expansion::PLACES],
+) -> Writer
+    requires { ⌜ (n ≤ 8) × (m ≤ 8) × (mixed < 2 ^ n) × (fixed < 2 ^ n) ⌝ }
+    requires { ⌜ start .at + length (productLines n m mixed fixed (at (now blocks)) (at (now coefficients))) ≤ length (now out) ⌝ }
+    ensures { λ r. ⌜ Put (now (out .entry)) (start .at) (productLines n m mixed fixed (at (now (blocks .entry))) (at (now (coefficients .entry)))) (now (out .exit)) (r .at) ⌝ }
+{
+    let size: usize = 1 << n;
+    let mut place = start;
+    let mut t: usize = 0;
+    while t < size {
+        let w = term_polarity(n, mixed, fixed, blocks, t);
+        place = write_term(place, out, n, m, t, w, coefficients[t]);
+        t += 1;
+    }
+    place
+}
+
+// Writes the listing of an expansion of n inputs, m outputs and k mixed inputs into the front of `out`, and gives its length. The record
+// states the products that its coefficients have. Where `out` is shorter than the listing it says so, and changes no byte; bytes past the
+// listing keep what they held.
+pub fn write_listing(n: usize, m: usize, k: usize, e: Expansion, out: &mut [u8]) -> Listed
+    requires { ⌜ Listable n m e ⌝ }
+    ensures { λ r. ⌜ WriteListing (listing n m k e) (now (out .entry)) r (now (out .exit)) ⌝ }
+{
+    let numbers = [n, m, k, e.mixed, e.fixed, e.products, e.literals];
+    let length = FRAME + digits_of(&numbers) + e.products * (n + m + TERM);
+    if out.len() < length {
+        return Listed::Short;
+    }
+    let coefficients = e.coefficients;
+    let blocks = e.blocks;
+    let terms = write_form(Writer { at: 0 }, out, &numbers);
+    let end = write_terms(terms, out, n, m, e.mixed, e.fixed, &coefficients, &blocks);
+    let stop = write_end(end, out);
+    Listed::Length(stop.at)
+}
