@@ -15,16 +15,19 @@ use Rattle.numbers.specs.Bytes.{at}
 use Rattle.numbers.specs.Nonzero.{ifNonzero, overNonzero}
 use Rattle.numbers.specs.Sums.{foldBelow, sumBelow}
 use Rattle.numbers.proofs.Nonzero.{nonzero-some, overNonzero-zero}
-use Rattle.table_texts.specs.declared.sizes.Sizes.{Sizes}
+use Rattle.expansions.specs.declared.kinds.Kind.{Kind}
+use Rattle.expansions.specs.declared.kinds.Kind.the-variants.{Block, Kronecker}
+use Rattle.table_texts.specs.declared.sizes.Design.{Design}
+use Rattle.table_texts.specs.Design.{KindSized}
 use Rattle.table_texts.specs.Accepted.{Accepted}
 use Rattle.listings.specs.Parts.{bytes}
-use Rattle.listings.specs.Listing.{tabbed, line, digitCount, decimal}
+use Rattle.listings.specs.Listing.{tabbed, line, digitCount}
 use Rattle.table_texts.specs.Read.{given, reading}
 use Rattle.table_texts.proofs.read.Accepted.{reading-accepted}
 use Rattle.listings.proofs.Characters.{length-decimal, length-outputs}
 use Rattle.listings.proofs.Longest.{digitCount-one}
 use Rattle.numbers.proofs.Shifts.{points-le}
-use Rattle.table_texts.specs.TableTexts.{pointLine, pointLines, sizesLine, textWith, tableText, dashText}
+use Rattle.table_texts.specs.TableTexts.{pointLine, pointLines, kindField, designLine, textWith, tableText, dashText}
 use Rattle.table_texts.proofs.Acceptance.{table-text-accepted}
 use Rattle.table_texts.proofs.Exactness.{accepted-text}
 
@@ -58,38 +61,44 @@ digits-total = refl
 
 -- ---- the text
 
-length-sizesLine : (z : Sizes) (k : List ℕ) → z .n < 10 → z .m < 10 → length k ≡ 1 → length (sizesLine z k) ≡ 12
-unfolding sizesLine line tabbed bytes
-length-sizesLine z k hn hm h =
-    simp (length-append, length-decimal) (omega (arith, digitCount-one (z .n) hn, digitCount-one (z .m) hm))
+length-designLine : (d : Design) (k : List ℕ) → d .n < 10 → d .m < 10 → length k ≡ 1 → length (designLine d k) ≡ 12
+unfolding designLine line tabbed bytes
+length-designLine d k hn hm h =
+    simp (length-append, length-decimal) (omega (arith, digitCount-one (d .n) hn, digitCount-one (d .m) hm))
 
-length-textWith : (k : List ℕ) (z : Sizes) (t : List ℕ)
-    → length (textWith k z t) ≡ length (sizesLine z k) + length (pointLines (z .m) (at t) (2 ^ z .n)) + 4
+length-textWith : (k : List ℕ) (d : Design) (t : List ℕ)
+    → length (textWith k d t) ≡ length (designLine d k) + length (pointLines (d .m) (at t) (2 ^ d .n)) + 4
 unfolding textWith line tabbed bytes
-length-textWith k z t = simp length-append (omega arith)
+length-textWith k d t = simp length-append (omega arith)
 
-text-length : (k : List ℕ) (z : Sizes) (t : List ℕ) → Accepted z t → length k ≡ 1 → length (textWith k z t) ≤ 4002
-text-length k z t g h =
-    let same : pointLines (z .m) (at t) 256 ≡ pointLines (z .m) (at t) (2 ^ z .n) =
-    overNonzero-zero (λ p. pointLine (z .m) p (at t p)) (at t) (2 ^ z .n) 256 (g .table .rest) (points-le (z .n) (g .sized .inputs .1)) in
-    let points : length (pointLines (z .m) (at t) (2 ^ z .n)) ≤ 256 * (5 + z .m) + sumBelow 256 digitCount = rw same at (pointLines-le (z .m) (at t) 256) in
-    let first : length (sizesLine z k) ≡ 12 = length-sizesLine z k (omega (arith, g .sized .inputs)) (omega (arith, g .sized .outputs)) h in
-    omega (arith, length-textWith k z t, g .sized .outputs, digits-total)
+text-length : (k : List ℕ) (d : Design) (t : List ℕ) → Accepted d t → length k ≡ 1 → length (textWith k d t) ≤ 4002
+text-length k d t g h =
+    let same : pointLines (d .m) (at t) 256 ≡ pointLines (d .m) (at t) (2 ^ d .n) =
+    overNonzero-zero (λ p. pointLine (d .m) p (at t p)) (at t) (2 ^ d .n) 256 (g .table .rest) (points-le (d .n) (g .sized .inputs .1)) in
+    let points : length (pointLines (d .m) (at t) (2 ^ d .n)) ≤ 256 * (5 + d .m) + sumBelow 256 digitCount = rw same at (pointLines-le (d .m) (at t) 256) in
+    let first : length (designLine d k) ≡ 12 = length-designLine d k (omega (arith, g .sized .inputs)) (omega (arith, g .sized .outputs)) h in
+    omega (arith, length-textWith k d t, g .sized .outputs, digits-total)
 
 length-dash : length (bytes "-") ≡ 1
 unfolding bytes
 length-dash = refl
 
-pub accepted-text-length : (s : List ℕ) (z : Sizes) (t : List ℕ) → reading s ≡ given z t → length s ≤ 4002
+-- the characters for the kind of k are one
+length-kind : (n : ℕ) (x : Kind) → KindSized n x → length (kindField x) ≡ 1
+unfolding kindField bytes
+length-kind n (Block k) h = length-decimal k ∙ digitCount-one k (omega (arith, h .0))
+length-kind n Kronecker h = refl
+
+pub accepted-text-length : (s : List ℕ) (d : Design) (t : List ℕ) → reading s ≡ given d t → length s ≤ 4002
 unfolding tableText dashText
-accepted-text-length s z t e = go (reading-accepted s z t e) (accepted-text s z t e) where
-  go : Accepted z t → (s ≡ tableText z t) ⊎ ((z .k ≡ 1) × (s ≡ dashText z t)) → length s ≤ 4002
-  go g (inl h) = rw h (text-length (decimal (z .k)) z t g (length-decimal (z .k) ∙ digitCount-one (z .k) (omega (arith, g .sized .mixed))))
-  go g (inr h) = rw (h .1) (text-length (bytes "-") z t g length-dash)
+accepted-text-length s d t e = go (reading-accepted s d t e) (accepted-text s d t e) where
+  go : Accepted d t → (s ≡ tableText d t) ⊎ ((d .kind ≡ Block 1) × (s ≡ dashText d t)) → length s ≤ 4002
+  go g (inl h) = rw h (text-length (kindField (d .kind)) d t g (length-kind (d .n) (d .kind) (g .sized .mixed)))
+  go g (inr h) = rw (h .1) (text-length (bytes "-") d t g length-dash)
 
 -- "the first 8,192 bytes of standard input as the whole text"
-pub accepted-text-first : (s : List ℕ) (z : Sizes) (t : List ℕ) → reading s ≡ given z t → take 8192 s ≡ s
-accepted-text-first s z t e = take-all 8192 s (omega (arith, accepted-text-length s z t e))
+pub accepted-text-first : (s : List ℕ) (d : Design) (t : List ℕ) → reading s ≡ given d t → take 8192 s ≡ s
+accepted-text-first s d t e = take-all 8192 s (omega (arith, accepted-text-length s d t e))
 
 -- ---- the longest text
 
@@ -102,8 +111,8 @@ pointLines-full m f (suc N) some =
     ∙ rw (last, length-pointLine m N (f N), pointLines-full m f N (λ p h. some p (omega arith))) (omega arith)
 
 -- eight inputs, eight outputs, and every output 1 at every point
-abbrev pub fullSizes : ℕ → Sizes
-fullSizes k = record { n = 8; m = 8; k = k }
+abbrev pub fullDesign : Kind → Design
+fullDesign x = record { n = 8; m = 8; kind = x }
 
 abbrev pub fullTable : List ℕ
 fullTable = replicate 256 255
@@ -120,22 +129,22 @@ full-small p = go (ltb p 256) refl where
   go true e = rw (full-point p (ltb-true p 256 e)) (lit< tt)
   go false e = rw (full-rest p (ltb-false p 256 e)) (lit< tt)
 
-full-accepted : (k : ℕ) → k ≤ 3 → Accepted (fullSizes k) fullTable
-full-accepted k h =
+full-accepted : (x : Kind) → KindSized 8 x → Accepted (fullDesign x) fullTable
+full-accepted x h =
     record {
-      sized = record { inputs = (lit≤ tt, lit≤ tt); outputs = (lit≤ tt, lit≤ tt); mixed = (h, omega arith) };
+      sized = record { inputs = (lit≤ tt, lit≤ tt); outputs = (lit≤ tt, lit≤ tt); mixed = h };
       table = record { long = length-replicate {A = ℕ} 256 255; small = full-small; rest = full-rest };
     }
 
-pub longest-accepted : (k : ℕ) → k ≤ 3 → reading (tableText (fullSizes k) fullTable) ≡ given (fullSizes k) fullTable
-longest-accepted k h = table-text-accepted (fullSizes k) fullTable (full-accepted k h)
+pub longest-accepted : (x : Kind) → KindSized 8 x → reading (tableText (fullDesign x) fullTable) ≡ given (fullDesign x) fullTable
+longest-accepted x h = table-text-accepted (fullDesign x) fullTable (full-accepted x h)
 
 -- the bound is met
-pub longest-length : (k : ℕ) → k ≤ 3 → length (tableText (fullSizes k) fullTable) ≡ 4002
+pub longest-length : (x : Kind) → KindSized 8 x → length (tableText (fullDesign x) fullTable) ≡ 4002
 unfolding tableText
-longest-length k h =
+longest-length x h =
     let points : length (pointLines 8 (at fullTable) 256) ≡ 256 * (5 + 8) + sumBelow 256 digitCount =
     pointLines-full 8 (at fullTable) 256 (λ p l e. omega (arith, full-point p l)) in
-    let first : length (sizesLine (fullSizes k) (decimal k)) ≡ 12 =
-    length-sizesLine (fullSizes k) (decimal k) (lit< tt) (lit< tt) (length-decimal k ∙ digitCount-one k (omega arith)) in
-    omega (arith, length-textWith (decimal k) (fullSizes k) fullTable, digits-total)
+    let first : length (designLine (fullDesign x) (kindField x)) ≡ 12 =
+    length-designLine (fullDesign x) (kindField x) (lit< tt) (lit< tt) (length-kind 8 x h) in
+    omega (arith, length-textWith (kindField x) (fullDesign x) fullTable, digits-total)

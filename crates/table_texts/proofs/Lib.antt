@@ -1,4 +1,5 @@
-pub mod SizesLine
+pub mod Design
+pub mod DesignLine
 pub mod Points
 pub mod Acceptance
 pub mod Exactness

@@ -19,37 +19,36 @@ use Rattle.listings.proofs.Parts.{separated}
 use Rattle.lines.specs.Rows.{tableGrammar, rows, rowLine, laterLines, rowsFrom}
 use Rattle.lines.proofs.LineKinds.{Held, rows-written, parts-read}
 use Rattle.lines.proofs.RowLines.{PointValue, table-kind}
-use Rattle.table_texts.specs.declared.sizes.Sizes.{Sizes}
 use Rattle.table_texts.specs.Accepted.{Table}
 use Rattle.table_texts.specs.TableTexts.{pointLine, pointLines}
 
-module _ (z : Sizes) (few : z .n ≤ 8) where
-  table-held : (t : List ℕ) → Held (2 ^ z .n) (PointValue (z .m)) t → Table z t
+module _ (n m : ℕ) (few : n ≤ 8) where
+  table-held : (t : List ℕ) → Held (2 ^ n) (PointValue m) t → Table n m t
   table-held t g = record { long = g .long; small = λ p. go p (ℕ-discrete (at t p) 0); rest = g .rest } where
-    go : (p : ℕ) → Dec (at t p ≡ 0) → at t p < 2 ^ z .m
-    go p (yes e) = rw e (pow-pos (z .m))
+    go : (p : ℕ) → Dec (at t p ≡ 0) → at t p < 2 ^ m
+    go p (yes e) = rw e (pow-pos m)
     go p (no e) = g .each p e .below
 
   -- the line l and the parts after it
   pub points-read : (number : ℕ) (l : List ℕ) (ls : List (List ℕ)) (t : List ℕ)
-      → laterLines (rowLine (tableGrammar (z .n) (z .m))) (z .n) number 0 (replicate 256 0) l ls ≡ rows t
-      → (l ++ separated 10 ls ≡ pointLines (z .m) (at t) (2 ^ z .n) ++ line (bytes "end") []) × Table z t
+      → laterLines (rowLine (tableGrammar n m)) n number 0 (replicate 256 0) l ls ≡ rows t
+      → (l ++ separated 10 ls ≡ pointLines m (at t) (2 ^ n) ++ line (bytes "end") []) × Table n m t
   unfolding pointLine
   points-read number l ls t e =
-      let read = parts-read (z .n) (rowLine (tableGrammar (z .n) (z .m))) (bytes "on") _ (PointValue (z .m)) (table-kind (z .n) (z .m) few) (points-le (z .n) few) number l ls t e in
+      let read = parts-read n (rowLine (tableGrammar n m)) (bytes "on") _ (PointValue m) (table-kind n m few) (points-le n few) number l ls t e in
       (read .0, table-held t (read .1))
 
-  table-rows : (t : List ℕ) → Table z t → t ≡ tabulate 256 (λ p. only (ltb p (2 ^ z .n)) (at t p))
+  table-rows : (t : List ℕ) → Table n m t → t ≡ tabulate 256 (λ p. only (ltb p (2 ^ n)) (at t p))
   unfolding only
-  table-rows t g = is-table 256 (λ p. only (ltb p (2 ^ z .n)) (at t p)) t (g .long) (λ p h. go p (ltb p (2 ^ z .n)) refl) where
-    go : (p : ℕ) (b : Bool) → ltb p (2 ^ z .n) ≡ b → at t p ≡ only b (at t p)
+  table-rows t g = is-table 256 (λ p. only (ltb p (2 ^ n)) (at t p)) t (g .long) (λ p h. go p (ltb p (2 ^ n)) refl) where
+    go : (p : ℕ) (b : Bool) → ltb p (2 ^ n) ≡ b → at t p ≡ only b (at t p)
     go p true e = refl
-    go p false e = g .rest p (ltb-false p (2 ^ z .n) e)
+    go p false e = g .rest p (ltb-false p (2 ^ n) e)
 
-  pub points-written : (number : ℕ) (t : List ℕ) → Table z t
-      → rowsFrom (tableGrammar (z .n) (z .m)) number (pointLines (z .m) (at t) (2 ^ z .n) ++ line (bytes "end") []) ≡ rows t
+  pub points-written : (number : ℕ) (t : List ℕ) → Table n m t
+      → rowsFrom (tableGrammar n m) number (pointLines m (at t) (2 ^ n) ++ line (bytes "end") []) ≡ rows t
   unfolding pointLine
   points-written number t g =
-      rows-written (z .n) (rowLine (tableGrammar (z .n) (z .m))) (bytes "on") _ (PointValue (z .m)) (table-kind (z .n) (z .m) few) (points-le (z .n) few) number (at t)
+      rows-written n (rowLine (tableGrammar n m)) (bytes "on") _ (PointValue m) (table-kind n m few) (points-le n few) number (at t)
       (λ p h some. record { below = g .small p; some = some })
       ∙ ap rows (sym (table-rows t g))

@@ -1,24 +1,36 @@
--- What the first line of a table text says, by its fields. Document 01, "Text in, listing out".
+-- What the first line of a table text says, by its fields. Document 01, "Text in, listing out", and document 02, W-202.
 use mathlib.Core.Bool.{cond}
 use mathlib.Core.List.{List}
 use Prim.Native.Nat.{ℕ}
+use Rattle.expansions.specs.declared.kinds.Kind.{Kind}
+use Rattle.expansions.specs.declared.kinds.Kind.the-variants.{Block, Kronecker}
 use Rattle.listings.specs.Parts.{bytes, same, field}
 use Rattle.lines.specs.declared.values.Number.{Number}
-use Rattle.lines.specs.declared.values.Number.the-variants.{Is}
 use Rattle.lines.specs.Fields.{andThen, oneDigit, headed}
+use Rattle.table_texts.specs.declared.first.KindRead.{KindRead}
+use Rattle.table_texts.specs.declared.first.KindRead.the-variants as kind
 use Rattle.table_texts.specs.declared.first.FirstLine.{FirstLine}
 use Rattle.table_texts.specs.declared.first.FirstLine.the-variants as first
 
--- "k may be `-`, which means 1"
-unfoldable pub mixed : List ℕ → Number
-mixed f = cond (same f (bytes "-")) (Is 1) (oneDigit f)
+-- a digit k selects document 01's class with k mixed inputs
+abbrev pub digitKind : Number → KindRead
+digitKind x = andThen x kind.Wrong (λ k. kind.Is (Block k))
 
--- n, m and k, where each field says one
-abbrev pub tableLine : Number → Number → Number → FirstLine
+-- "Each is one digit; k may be `-`, which means 1"; document 02: "A k field of `K` selects it", the Kronecker expansion
+unfoldable pub kindOf : List ℕ → KindRead
+kindOf f = cond (same f (bytes "-")) (kind.Is (Block 1)) (cond (same f (bytes "K")) (kind.Is Kronecker) (digitKind (oneDigit f)))
+
+-- what follows a kind that is read
+abbrev pub kindThen : KindRead → (Kind → FirstLine) → FirstLine
+kindThen (kind.Is x) next = next x
+kindThen kind.Wrong next = first.Wrong
+
+-- n, m and the kind of k, where each field says one
+abbrev pub tableLine : Number → Number → KindRead → FirstLine
 tableLine n m k =
-    andThen n first.Wrong (λ n. andThen m first.Wrong (λ m. andThen k first.Wrong (λ k. first.Table (record { n = n; m = m; k = k }))))
+    andThen n first.Wrong (λ n. andThen m first.Wrong (λ m. kindThen k (λ x. first.Table (record { n = n; m = m; kind = x }))))
 
 -- "`table`, n, m, k. Each is one digit; k may be `-`, which means 1."
 unfoldable pub firstLine : List ℕ → FirstLine
 firstLine l =
-    cond (headed 4 (bytes "table") l) (tableLine (oneDigit (field 1 l)) (oneDigit (field 2 l)) (mixed (field 3 l))) first.Wrong
+    cond (headed 4 (bytes "table") l) (tableLine (oneDigit (field 1 l)) (oneDigit (field 2 l)) (kindOf (field 3 l))) first.Wrong

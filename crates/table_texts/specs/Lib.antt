@@ -1,3 +1,4 @@
+pub mod Design
 pub mod First
 pub mod Read
 pub mod Accepted

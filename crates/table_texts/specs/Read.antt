@@ -1,4 +1,4 @@
--- What a table text means: its sizes and its table, or the refusal that it meets. Document 01, "Text in, listing out" and "Why a call
+-- What a table text means: its design and its table, or the refusal that it meets. Document 01, "Text in, listing out" and "Why a call
 -- declines".
 use mathlib.Core.Bool.{cond}
 use mathlib.Core.List.{List, [], _∷_}
@@ -6,40 +6,40 @@ use mathlib.Core.Path.{_≡_}
 use Prim.Native.Nat.{ℕ, zero, suc}
 use lib.Dec.{eqb}
 use lib.ListN.{length, replicate}
-use Rattle.numbers.specs.Refusals.{sizesRefusal}
 use Rattle.listings.specs.Parts.{parts}
 use Rattle.lines.specs.Rows as later
 use Rattle.lines.specs.Rows.{RowsRead, tableGrammar, rowLine, unfinished, laterLines}
-use Rattle.table_texts.specs.declared.sizes.Sizes.{Sizes}
+use Rattle.table_texts.specs.declared.sizes.Design.{Design}
 use Rattle.table_texts.specs.declared.first.FirstLine.{FirstLine}
 use Rattle.table_texts.specs.declared.first.FirstLine.the-variants as first
 use Rattle.table_texts.specs.declared.read.ReadAnswer.{ReadAnswer}
 use Rattle.table_texts.specs.declared.read.ReadAnswer.the-variants as answer
+use Rattle.table_texts.specs.Design.{designRefusal}
 use Rattle.table_texts.specs.First.{firstLine}
 
--- "returns n, m, k" and "fills a lent table of 256 bytes"; "A refusal returns its number and the line"
+-- "returns n, m, k", of k "the kind of k", and "fills a lent table of 256 bytes"; "A refusal returns its number and the line"
 pub data Reading : Type 0 where
-  given : (sizes : Sizes) (table : List ℕ) → Reading
+  given : (design : Design) (table : List ℕ) → Reading
   refused : (number line : ℕ) → Reading
 
--- the sizes with the table that the lines after the first give, or their refusal
-unfoldable pub withSizes : Sizes → RowsRead → Reading
-withSizes sizes (later.rows table) = given sizes table
-withSizes sizes (later.refused number line) = refused number line
+-- the design with the table that the lines after the first give, or their refusal
+unfoldable pub withDesign : Design → RowsRead → Reading
+withDesign design (later.rows table) = given design table
+withDesign design (later.refused number line) = refused number line
 
--- the sizes where they are not refused, and else their refusal, in line 1
-abbrev pub sizesJudged : ℕ → Sizes → ReadAnswer
-sizesJudged zero sizes = answer.Given sizes
-sizesJudged (suc x) sizes = answer.Refused (suc x) 1
+-- the design where it is not refused, and else its refusal, in line 1
+abbrev pub designJudged : ℕ → Design → ReadAnswer
+designJudged zero design = answer.Given design
+designJudged (suc x) design = answer.Refused (suc x) 1
 
 -- "In line 1 the order is 1, 2, 3, 4."
 unfoldable pub judgedFirst : FirstLine → ReadAnswer
 judgedFirst first.Wrong = answer.Refused 1 1
-judgedFirst (first.Table sizes) = sizesJudged (sizesRefusal (sizes .n) (sizes .m) (sizes .k)) sizes
+judgedFirst (first.Table design) = designJudged (designRefusal design) design
 
 -- what follows the first line, where it is not refused
-abbrev pub opened : ReadAnswer → (Sizes → Reading) → Reading
-opened (answer.Given sizes) next = next sizes
+abbrev pub opened : ReadAnswer → (Design → Reading) → Reading
+opened (answer.Given design) next = next design
 opened (answer.Refused number line) next = refused number line
 
 -- the first line, and the lines after it: "Points not listed are all zero."
@@ -47,7 +47,7 @@ unfoldable pub allLines : List ℕ → List (List ℕ) → Reading
 allLines l [] = refused (unfinished l) 1
 allLines l (l′ ∷ ls) =
     opened (judgedFirst (firstLine l))
-    (λ sizes. withSizes sizes (laterLines (rowLine (tableGrammar (sizes .n) (sizes .m))) (sizes .n) 2 0 (replicate 256 0) l′ ls))
+    (λ design. withDesign design (laterLines (rowLine (tableGrammar (design .n) (design .m))) (design .n) 2 0 (replicate 256 0) l′ ls))
 
 -- "Each line ends with byte 10": what a text means
 unfoldable pub reading : List ℕ → Reading
@@ -57,20 +57,20 @@ reading s = allLines (parts 10 s .first) (parts 10 s .others)
 
 -- "8. A lent table .. has another length than its call states": the text is judged first
 unfoldable pub lent : Reading → ℕ → Reading
-lent (given sizes table) room = cond (eqb room 256) (given sizes table) (refused 8 0)
+lent (given design table) room = cond (eqb room 256) (given design table) (refused 8 0)
 lent (refused number line) room = refused number line
 
 -- what each case of the answer stands for, with the lent table as the call leaves it
 unfoldable pub standsFor : ReadAnswer → List ℕ → Reading
-standsFor (answer.Given sizes) table = given sizes table
+standsFor (answer.Given design) table = given design table
 standsFor (answer.Refused number line) table = refused number line
 
 -- what the lent table holds after a reading; under a refusal it is as it was
 unfoldable pub tableAfter : Reading → List ℕ → List ℕ
-tableAfter (given sizes table) before = table
+tableAfter (given design table) before = table
 tableAfter (refused number line) before = before
 
--- "The reading call fills a lent table of 256 bytes, zero from 2^n on, and returns n, m, k."
+-- "The reading call fills a lent table of 256 bytes, zero from 2^n on, and returns n, m, k."; document 02: it "returns the kind of k"
 pub record ReadTable (text before : List ℕ) (r : ReadAnswer) (after : List ℕ) : Type 0 where
   pub result : standsFor r after ≡ lent (reading text) (length before)
   pub table : after ≡ tableAfter (lent (reading text) (length before)) before

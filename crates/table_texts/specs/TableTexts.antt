@@ -1,10 +1,12 @@
--- The text that is written for the sizes and the table of a design. Document 01, "Text in, listing out": "A table text is: `table`, n, m, k ..;
+-- The text that is written for a design and its table. Document 01, "Text in, listing out": "A table text is: `table`, n, m, k ..;
 -- lines `on`, point, outputs ..; `end`." Its lines, its numbers in base ten and its outputs are those of a listing.
 use mathlib.Core.List.{List, [], _∷_, _++_}
 use Prim.Native.Nat.{ℕ, _^_}
 use Rattle.numbers.specs.Bytes.{at}
 use Rattle.numbers.specs.Nonzero.{overNonzero}
-use Rattle.table_texts.specs.declared.sizes.Sizes.{Sizes}
+use Rattle.expansions.specs.declared.kinds.Kind.{Kind}
+use Rattle.expansions.specs.declared.kinds.Kind.the-variants.{Block, Kronecker}
+use Rattle.table_texts.specs.declared.sizes.Design.{Design}
 use Rattle.listings.specs.Parts.{bytes}
 use Rattle.listings.specs.Listing.{line, decimal, outputBytes}
 
@@ -17,18 +19,23 @@ pointLine m p o = line (bytes "on") (decimal p ∷ outputBytes m o ∷ [])
 abbrev pub pointLines : ℕ → (ℕ → ℕ) → ℕ → List ℕ
 pointLines m f N = overNonzero (λ p. pointLine m p (f p)) f N
 
+-- "Each is one digit", and "A k field of `K`": the characters for the kind of k
+unfoldable pub kindField : Kind → List ℕ
+kindField (Block k) = decimal k
+kindField Kronecker = bytes "K"
+
 -- "`table`, n, m, k": the first line with the given characters for k
-unfoldable pub sizesLine : Sizes → List ℕ → List ℕ
-sizesLine z k = line (bytes "table") (decimal (z .n) ∷ decimal (z .m) ∷ k ∷ [])
+unfoldable pub designLine : Design → List ℕ → List ℕ
+designLine d k = line (bytes "table") (decimal (d .n) ∷ decimal (d .m) ∷ k ∷ [])
 
--- the whole text for the sizes z and the table t, with the given characters for k
-unfoldable pub textWith : List ℕ → Sizes → List ℕ → List ℕ
-textWith k z t = sizesLine z k ++ pointLines (z .m) (at t) (2 ^ z .n) ++ line (bytes "end") []
+-- the whole text for the design d and the table t, with the given characters for k
+unfoldable pub textWith : List ℕ → Design → List ℕ → List ℕ
+textWith k d t = designLine d k ++ pointLines (d .m) (at t) (2 ^ d .n) ++ line (bytes "end") []
 
--- "Each is one digit": the text with the digit k
-unfoldable pub tableText : Sizes → List ℕ → List ℕ
-tableText z t = textWith (decimal (z .k)) z t
+-- the text with the digit k or `K`
+unfoldable pub tableText : Design → List ℕ → List ℕ
+tableText d t = textWith (kindField (d .kind)) d t
 
 -- "k may be `-`, which means 1": the text with `-` for k
-unfoldable pub dashText : Sizes → List ℕ → List ℕ
-dashText z t = textWith (bytes "-") z t
+unfoldable pub dashText : Design → List ℕ → List ℕ
+dashText d t = textWith (bytes "-") d t

@@ -2,7 +2,9 @@
 // leaves the bytes that `reading` in specs/Read.antt says.
 use crate::first::FirstLine;
 use crate::first::first_line;
+use crate::sizes::Design;
 use crate::sizes::Sizes;
+use crate::sizes::judge_design;
 use lines::cursor::Cursor;
 use lines::judge::PLACES;
 use lines::judge::RowsAnswer;
@@ -10,7 +12,6 @@ use lines::judge::judge_rows;
 use lines::judge::unfinished;
 use lines::rows::Grammar;
 use lines::rows::Kind;
-use numbers::refusals::judge_sizes;
 ghost use mathlib.Core.Path.{_≡_};
 ghost use Prim.Native.Nat.{ℕ, _≤_, _<_};
 ghost use lib.ListN.{length, replicate};
@@ -18,11 +19,11 @@ ghost use Rattle.numbers.specs.Bytes.{at};
 ghost use Rattle.lines.specs.Rows.{tableGrammar};
 ghost use Rattle.lines.specs.inner.Steps.{rowsAt, Within};
 ghost use Rattle.table_texts.specs.First.{firstLine};
-ghost use Rattle.table_texts.specs.Read.{withSizes, judgedFirst, reading, standsFor, ReadTable};
+ghost use Rattle.table_texts.specs.Read.{withDesign, judgedFirst, reading, standsFor, ReadTable};
 
 // The reading call's answer. A refusal has document 01's number and the line.
 pub enum ReadAnswer {
-    Given(Sizes),
+    Given(Design),
     Refused { number: usize, line: usize },
 }
 
@@ -30,28 +31,28 @@ pub enum ReadAnswer {
 fn judge_first(line: &[u8]) -> ReadAnswer
     ensures { λ r. ⌜ r ≡ judgedFirst (firstLine (now (line .entry))) ⌝ }
 {
-    let FirstLine::Table(sizes) = first_line(line) else {
+    let FirstLine::Table(design) = first_line(line) else {
         return ReadAnswer::Refused { number: 1, line: 1 };
     };
-    let number = judge_sizes(sizes.n, sizes.m, sizes.k);
+    let number = judge_design(design);
     if number != 0 {
         return ReadAnswer::Refused { number, line: 1 };
     }
-    ReadAnswer::Given(sizes)
+    ReadAnswer::Given(design)
 }
 
 // Judges the lines after the first, and puts their outputs among the rows.
-fn judge_points(text: &[u8], start: Cursor, sizes: Sizes, rows: &mut [u16; PLACES]) -> ReadAnswer
-    requires { ⌜ (Within (now text) start) × (sizes .n ≤ 8) × (sizes .m ≤ 8) ⌝ }
-    ensures { λ r. ⌜ standsFor r (now (rows .exit)) ≡ withSizes sizes (rowsAt (now (text .entry)) (tableGrammar (sizes .n) (sizes .m)) start 0 (now (rows .entry))) ⌝ }
+fn judge_points(text: &[u8], start: Cursor, design: Design, rows: &mut [u16; PLACES]) -> ReadAnswer
+    requires { ⌜ (Within (now text) start) × (design .n ≤ 8) × (design .m ≤ 8) ⌝ }
+    ensures { λ r. ⌜ standsFor r (now (rows .exit)) ≡ withDesign design (rowsAt (now (text .entry)) (tableGrammar (design .n) (design .m)) start 0 (now (rows .entry))) ⌝ }
 {
     let grammar = Grammar {
         kind: Kind::Table,
-        n: sizes.n,
-        m: sizes.m,
+        n: design.n,
+        m: design.m,
     };
     match judge_rows(text, start, grammar, rows) {
-        RowsAnswer::Done => ReadAnswer::Given(sizes),
+        RowsAnswer::Done => ReadAnswer::Given(design),
         RowsAnswer::Refused { number, line } => ReadAnswer::Refused { number, line },
     }
 }
@@ -70,7 +71,7 @@ fn judge_text(text: &[u8], rows: &mut [u16; PLACES]) -> ReadAnswer
         };
     }
     match judge_first(&text[..to]) {
-        ReadAnswer::Given(sizes) => judge_points(text, stop.next_line(), sizes, rows),
+        ReadAnswer::Given(design) => judge_points(text, stop.next_line(), design, rows),
         ReadAnswer::Refused { number, line } => ReadAnswer::Refused { number, line },
     }
 }
@@ -87,8 +88,8 @@ fn copy(rows: &[u16; PLACES], table: &mut [u8])
     }
 }
 
-// Reads a table text. It fills the lent table of 256 bytes, zero from 2^n on, and gives n, m and k, where `-` is 1. It refuses a text by
-// 1 to 6 with the line, and then a table of another length by 8 with line 0; under a refusal the table is as it was.
+// Reads a table text. It fills the lent table of 256 bytes, zero from 2^n on, and gives n, m and the kind of k, where `-` is 1. It refuses a
+// text by 1 to 6 with the line, and then a table of another length by 8 with line 0; under a refusal the table is as it was.
 pub fn read_table(text: &[u8], table: &mut [u8]) -> ReadAnswer
     ensures { λ r. ⌜ ReadTable (now (text .entry)) (now (table .entry)) r (now (table .exit)) ⌝ }
 {

@@ -1,5 +1,10 @@
-// The sizes of a table text: what its first line says.
+// The sizes of a design: what the first line of a table text says, and the refusal of it.
+use expansions::kinds::Kind;
 use numbers::refusals::MOST_INPUTS;
+use numbers::refusals::judge_sizes;
+use numbers::refusals::judge_table;
+ghost use mathlib.Core.Path.{_≡_};
+ghost use Rattle.table_texts.specs.Design.{designRefusal};
 
 // The inputs n, the outputs m and the mixed inputs k.
 pub struct Sizes {
@@ -11,4 +16,22 @@ pub struct Sizes {
 impl Sizes {
     // The bytes of a lent table: one for each point of as many inputs as there can be.
     pub const TABLE: usize = 1 << MOST_INPUTS;
+}
+
+// What the first line of a table text says: the inputs n, the outputs m and the kind of k.
+pub struct Design {
+    pub n: usize,
+    pub m: usize,
+    pub kind: Kind,
+}
+
+// The refusal of a design: that of its table, then 4 where k is a number above 3 or above n; and 0 where there is none.
+pub fn judge_design(design: Design) -> usize
+    ensures { λ r. ⌜ r ≡ designRefusal design ⌝ }
+{
+    let kind = design.kind;
+    match kind {
+        Kind::Block(k) => judge_sizes(design.n, design.m, k),
+        Kind::Kronecker => judge_table(design.n, design.m),
+    }
 }

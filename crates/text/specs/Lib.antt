@@ -1,3 +1,2 @@
 pub mod Compile
 pub mod Print
-pub mod inner

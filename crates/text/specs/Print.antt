@@ -5,7 +5,7 @@ use mathlib.Core.Path.{_≡_}
 use Prim.Native.Nat.{ℕ, _-_, _≤_}
 use lib.ListN.{length, take, replicate}
 use Rattle.numbers.specs.Bytes.{at}
-use Rattle.table_texts.specs.declared.sizes.Sizes.{Sizes}
+use Rattle.table_texts.specs.declared.sizes.Design.{Design}
 use Rattle.listings.specs.Parts.{bytes}
 use Rattle.table_texts.specs.Read.{Reading, given, refused, reading}
 use Rattle.listings.specs.Listing.{line, decimal}
@@ -29,14 +29,14 @@ printedFor (refused number l) = refusedLine number l
 unfoldable pub printed : List ℕ → List ℕ
 printed input = printedFor (reading (judged input))
 
--- What is handed out for an input: 5,916 bytes, zero past what is printed, and how many are printed. The bytes printed for an accepted text
+-- What is handed out for an input: 5,919 bytes, zero past what is printed, and how many are printed. The bytes printed for an accepted text
 -- are a listing as demand 3 asks, and the numbers on the line printed for a refused one, read in base ten, are the refusal's number and line.
 pub record Print (input held : List ℕ) (count : ℕ) : Type 0 where
   pub counted : count ≡ length (printed input)
-  pub filled : held ≡ printed input ++ replicate (5916 - length (printed input)) 0
+  pub filled : held ≡ printed input ++ replicate (5919 - length (printed input)) 0
   pub within : count ≤ length held
   pub shown : take count held ≡ printed input
-  pub meaning : (z : Sizes) (table : List ℕ) → reading (judged input) ≡ given z table → IsListing (z .n) (z .k) (at table) (take count held)
+  pub meaning : (d : Design) (table : List ℕ) → reading (judged input) ≡ given d table → IsListing (d .n) (d .kind) (at table) (take count held)
   pub refusal : (number l : ℕ) → reading (judged input) ≡ refused number l → firstNumbers (take count held) ≡ number ∷ l ∷ []
   -- "(every text that can be accepted is shorter)": where the whole input is a text that is accepted, its listing is printed
-  pub whole : (z : Sizes) (table : List ℕ) → reading input ≡ given z table → take count held ≡ answerListing z table
+  pub whole : (d : Design) (table : List ℕ) → reading input ≡ given d table → take count held ≡ answerListing d table

@@ -1,16 +1,22 @@
 // The text call: it reads a table text, finds the cheapest expansion and writes its listing.
 // The main property, for every text and every buffer: the result and every byte of the buffer follow from what the text means, and where a
 // listing is written its own lines give every output of the table at every point, and no expansion of the class at that k is cheaper.
-use crate::write::Listed;
-use crate::write::write_listing;
+use expansions::kinds::Kind;
+use kronecker::answer::find_kronecker;
+use listing_writing::form::write_listing;
+use listing_writing::kron::write_kronecker;
+use listing_writing::listed::Listed;
 use search::answer::find_answer;
 use table_texts::read::ReadAnswer;
 use table_texts::read::read_table;
+use table_texts::sizes::Design;
 use table_texts::sizes::Sizes;
 ghost use mathlib.Core.Path.{_≡_};
 ghost use lib.ListN.{length};
 ghost use Rattle.table_texts.specs.Read.{given};
-ghost use Rattle.text.specs.Compile.{compiled, bufferAfter, Compile};
+ghost use Rattle.table_texts.specs.Design.{blockDesign, kroneckerDesign};
+ghost use Rattle.listing_writing.specs.Write.{WriteListing};
+ghost use Rattle.text.specs.Compile.{answerListing, compiled, bufferAfter, Compile};
 ghost use Rattle.table_texts.specs.Accepted.{Accepted};
 
 // The text call's answer: the length of the listing that was written, or declined with document 01's number and line.
@@ -19,18 +25,50 @@ pub enum Compiled {
     Refused { number: usize, line: usize },
 }
 
-// Minimises a table that was read, and writes the listing.
-fn compile_table(sizes: Sizes, table: &[u8], output: &mut [u8]) -> Compiled
-    requires { ⌜ Accepted sizes (now table) ⌝ }
-    ensures { λ r. ⌜ r ≡ compiled (given sizes (now (table .entry))) (length (now (output .entry))) ⌝ }
-    ensures { λ r. ⌜ now (output .exit) ≡ bufferAfter (given sizes (now (table .entry))) (now (output .entry)) ⌝ }
+// Finds the cheapest member of document 01's class, and writes its listing.
+fn write_block(sizes: Sizes, table: &[u8], output: &mut [u8]) -> Listed
+    requires { ⌜ Accepted (blockDesign sizes) (now table) ⌝ }
+    ensures { λ r. ⌜ WriteListing (answerListing (blockDesign sizes) (now (table .entry))) (now (output .entry)) r (now (output .exit)) ⌝ }
 {
     let n = sizes.n;
     let m = sizes.m;
     let k = sizes.k;
     let size: usize = 1 << n;
     let answer = find_answer(n, m, k, &table[..size]);
-    match write_listing(n, m, k, answer, output) {
+    write_listing(n, m, k, answer, output)
+}
+
+// Finds the cheapest Kronecker expansion, and writes its listing.
+fn write_kind(n: usize, m: usize, table: &[u8], output: &mut [u8]) -> Listed
+    requires { ⌜ Accepted (kroneckerDesign n m) (now table) ⌝ }
+    ensures { λ r. ⌜ WriteListing (answerListing (kroneckerDesign n m) (now (table .entry))) (now (output .entry)) r (now (output .exit)) ⌝ }
+{
+    let size: usize = 1 << n;
+    let answer = find_kronecker(n, m, &table[..size]);
+    write_kronecker(n, m, answer, output)
+}
+
+// Writes the listing of the answer, by the kind of k.
+fn write_answer(design: Design, table: &[u8], output: &mut [u8]) -> Listed
+    requires { ⌜ Accepted design (now table) ⌝ }
+    ensures { λ r. ⌜ WriteListing (answerListing design (now (table .entry))) (now (output .entry)) r (now (output .exit)) ⌝ }
+{
+    let n = design.n;
+    let m = design.m;
+    let kind = design.kind;
+    match kind {
+        Kind::Block(k) => write_block(Sizes { n, m, k }, table, output),
+        Kind::Kronecker => write_kind(n, m, table, output),
+    }
+}
+
+// Minimises a table that was read, and writes the listing.
+fn compile_table(design: Design, table: &[u8], output: &mut [u8]) -> Compiled
+    requires { ⌜ Accepted design (now table) ⌝ }
+    ensures { λ r. ⌜ r ≡ compiled (given design (now (table .entry))) (length (now (output .entry))) ⌝ }
+    ensures { λ r. ⌜ now (output .exit) ≡ bufferAfter (given design (now (table .entry))) (now (output .entry)) ⌝ }
+{
+    match write_answer(design, table, output) {
         Listed::Length(length) => Compiled::Written { length },
         Listed::Short => Compiled::Refused {
             number: 10,
@@ -46,7 +84,7 @@ pub fn compile(text: &[u8], output: &mut [u8]) -> Compiled
 {
     let mut table = [0u8; Sizes::TABLE];
     match read_table(text, &mut table) {
-        ReadAnswer::Given(sizes) => compile_table(sizes, &table, output),
+        ReadAnswer::Given(design) => compile_table(design, &table, output),
         ReadAnswer::Refused { number, line } => Compiled::Refused { number, line },
     }
 }

@@ -9,9 +9,9 @@ use Rattle.listings.specs.Parts.{parts}
 use Rattle.listings.specs.inner.Stops.{stop}
 use Rattle.listings.proofs.Parts.{first-take, others-last, others-next}
 use Rattle.lines.specs.Rows.{tableGrammar, rowLine, unfinished, laterLines}
-use Rattle.table_texts.specs.declared.sizes.Sizes.{Sizes}
+use Rattle.table_texts.specs.declared.sizes.Design.{Design}
 use Rattle.table_texts.specs.First.{firstLine}
-use Rattle.table_texts.specs.Read.{Reading, refused, withSizes, judgedFirst, opened, allLines, reading}
+use Rattle.table_texts.specs.Read.{Reading, refused, withDesign, judgedFirst, opened, allLines, reading}
 
 module _ (s : List ℕ) (to : ℕ) (e : to ≡ stop 10 s 0) where
   first-part : take to s ≡ parts 10 s .first
@@ -21,10 +21,10 @@ module _ (s : List ℕ) (to : ℕ) (e : to ≡ stop 10 s 0) where
   unfolding reading allLines
   text-unfinished h = rw (first-part, others-last 10 s 0 (omega arith))
 
-  -- what follows a first line that gives sizes
-  abbrev pub linesAfter : Sizes → Reading
-  linesAfter z =
-      withSizes z (laterLines (rowLine (tableGrammar (z .n) (z .m))) (z .n) 2 0 (replicate 256 0) (parts 10 (drop (to + 1) s) .first) (parts 10 (drop (to + 1) s) .others))
+  -- what follows a first line that gives a design
+  abbrev pub linesAfter : Design → Reading
+  linesAfter d =
+      withDesign d (laterLines (rowLine (tableGrammar (d .n) (d .m))) (d .n) 2 0 (replicate 256 0) (parts 10 (drop (to + 1) s) .first) (parts 10 (drop (to + 1) s) .others))
 
   pub text-judged : to < length s → reading s ≡ opened (judgedFirst (firstLine (take to s))) linesAfter
   unfolding reading allLines

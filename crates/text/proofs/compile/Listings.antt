@@ -11,32 +11,44 @@ use lib.Seq.{take-append-seam}
 use Rattle.numbers.specs.Bytes.{at}
 use Rattle.search.specs.Expansion.{answerExpansion}
 use Rattle.search.proofs.expansion.Answer.{answerExpansion-is, expansion-coefficients-lt}
-use Rattle.table_texts.specs.declared.sizes.Sizes.{Sizes}
+use Rattle.expansions.specs.declared.kinds.Kind.{Kind}
+use Rattle.expansions.specs.declared.kinds.Kind.the-variants.{Block, Kronecker}
+use Rattle.kronecker.proofs.expansion.Answer.{answerKronecker-is, answerKronecker-literals-le, kronecker-coefficients-lt}
+use Rattle.table_texts.specs.declared.sizes.Design.{Design}
+use Rattle.table_texts.specs.Design.{KindSized}
 use Rattle.table_texts.specs.declared.read.ReadAnswer.{ReadAnswer}
 use Rattle.table_texts.specs.declared.read.ReadAnswer.the-variants as answer
 use Rattle.text.specs.declared.compile.Compiled.{Compiled}
 use Rattle.text.specs.declared.compile.Compiled.the-variants.{Written, Refused}
 use Rattle.table_texts.specs.Accepted.{Accepted}
 use Rattle.table_texts.specs.Read.{Reading, given, reading, standsFor}
-use Rattle.text.specs.Compile.{answerListing, compiled, bufferAfter, Compile}
+use Rattle.text.specs.Compile.{kindListing, answerListing, compiled, bufferAfter, Compile}
 use Rattle.listings.specs.Meaning.{IsListing}
 use Rattle.table_texts.proofs.read.Accepted.{reading-accepted, reads-refused}
 use Rattle.listings.proofs.ListedAnswers.{answer-listed}
+use Rattle.listings.proofs.Kronecker.{kronecker-listed}
 
 -- ---- the listing of the answer
 
-pub answer-listing : (z : Sizes) (table : List ℕ) → Accepted z table → IsListing (z .n) (z .k) (at table) (answerListing z table)
+pub answer-listing : (d : Design) (table : List ℕ) → Accepted d table → IsListing (d .n) (d .kind) (at table) (answerListing d table)
 unfolding answerListing
-answer-listing z table a =
-    let s = a .sized in
-    let minimal = answerExpansion-is (z .n) (z .k) (at table) (s .inputs .1) (s .mixed .1) in
-    let small = expansion-coefficients-lt (z .n) (z .k) (at table) (s .inputs .1) (z .m) (s .mixed .1) (λ p h. a .table .small p) in
-    answer-listed (z .n) (z .m) (z .k) (answerExpansion (z .n) (z .k) (at table)) (at table) (s .inputs .1) (s .outputs .1) (s .mixed .0) minimal (λ t l. small t)
+answer-listing d table a = go (d .kind) (a .sized .mixed) where
+  go : (x : Kind) → KindSized (d .n) x → IsListing (d .n) x (at table) (kindListing (d .n) (d .m) x table)
+  go (Block k) s =
+      let minimal = answerExpansion-is (d .n) k (at table) (a .sized .inputs .1) (s .1) in
+      let small = expansion-coefficients-lt (d .n) k (at table) (a .sized .inputs .1) (d .m) (s .1) (λ p h. a .table .small p) in
+      answer-listed (d .n) (d .m) k (answerExpansion (d .n) k (at table)) (at table) (a .sized .inputs .1) (a .sized .outputs .1) (s .0) minimal
+      (λ t l. small t)
+  go Kronecker s =
+      let minimal = answerKronecker-is (d .n) (at table) (a .sized .inputs .1) in
+      let small = kronecker-coefficients-lt (d .n) (at table) (a .sized .inputs .1) (d .m) (λ p h. a .table .small p) in
+      kronecker-listed (d .n) (d .m) (at table) _ _ _ _ (a .sized .inputs .1) minimal
+      (omega (arith, answerKronecker-literals-le (d .n) (at table) (a .sized .inputs .1))) (λ t h. small t)
 
 -- ---- the text call
 
 -- where the text is accepted: what it wrote is the listing, and it stands at the front of the buffer
-written-listing : (z : Sizes) (table before after : List ℕ) (written : ℕ) → Written written ≡ compiled (given z table) (length before)
+written-listing : (z : Design) (table before after : List ℕ) (written : ℕ) → Written written ≡ compiled (given z table) (length before)
     → after ≡ bufferAfter (given z table) before → take written after ≡ answerListing z table
 unfolding compiled bufferAfter
 written-listing z table before after written ew ea = go (leb (length (answerListing z table)) (length before)) ew ea
@@ -54,14 +66,14 @@ compile-meaning text before after r er ea =
     record {
       answer = er;
       bytes = ea;
-      meaning = λ z table written e w.
-          let listed = written-listing z table before after written (sym w ∙ er ∙ ap (λ (x : Reading). compiled x (length before)) e) (ea ∙ ap (λ (x : Reading). bufferAfter x before) e) in
-          subst (IsListing (z .n) (z .k) (at table)) (sym listed) (answer-listing z table (reading-accepted text z table e));
+      meaning = λ d table written e w.
+          let listed = written-listing d table before after written (sym w ∙ er ∙ ap (λ (x : Reading). compiled x (length before)) e) (ea ∙ ap (λ (x : Reading). bufferAfter x before) e) in
+          subst (IsListing (d .n) (d .kind) (at table)) (sym listed) (answer-listing d table (reading-accepted text d table e));
     }
 
 -- by the reading call's answer
 
-pub compile-given : (text table before after : List ℕ) (z : Sizes) (r : Compiled) → reading text ≡ given z table
+pub compile-given : (text table before after : List ℕ) (z : Design) (r : Compiled) → reading text ≡ given z table
     → r ≡ compiled (given z table) (length before) → after ≡ bufferAfter (given z table) before → Compile text before after r
 compile-given text table before after z r e er ea =
     compile-meaning text before after r (er ∙ ap (λ (x : Reading). compiled x (length before)) (sym e)) (ea ∙ ap (λ (x : Reading). bufferAfter x before) (sym e))

@@ -1,6 +1,6 @@
--- A table that was read, minimised and written: the search hands up its answer (`searched-table`), the answer can be written
--- (`table-listable`), and what the writer leaves is what the text call owes (`compiled-answer`, `compiled-bytes`).
-use mathlib.Core.Path.{_≡_, refl, ap, _∙_}
+-- A table that was read, minimised and written: the searches hand up its answer (`searched-block`, `searched-kind`), the answer can be written
+-- (`block-listable`, `kind-listable`), and what the writer leaves is what the text call owes (`compiled-answer`, `compiled-bytes`).
+use mathlib.Core.Path.{_≡_, refl, ap, subst, _∙_}
 use mathlib.Core.Bool.{Bool, true, false, cond}
 use mathlib.Core.List.{List}
 use Prim.Native.Nat.{ℕ, _*_, _%_, _^_, _≤_, _<_}
@@ -11,65 +11,82 @@ use lib.ListN.{length, take, List·getD-eq-default}
 use lib.Pow.{pow-pos, pow-mono}
 use lib.Seq.{length-take-le, getD-take}
 use Rattle.numbers.specs.Bytes.{at, allBelow}
+use Rattle.numbers.specs.Refusals.{TableSized, Sized}
 use Rattle.numbers.proofs.Shifts.{one-shifted}
+use Rattle.numbers.proofs.Tests.{same-test}
 use Rattle.numbers.proofs.refusals.Outputs.{below-from}
 use Rattle.search.specs.Expansion.{answerExpansion, searched}
 use Rattle.search.proofs.expansion.Answer.{answerExpansion-is, answerExpansion-ext}
 use Rattle.search.proofs.answer.Searchable.{searched-answer}
-use Rattle.table_texts.specs.declared.sizes.Sizes.{Sizes}
-use Rattle.text.specs.declared.write.Listed.{Listed}
-use Rattle.text.specs.declared.write.Listed.the-variants as listed
-use Rattle.text.specs.declared.compile.Compiled.{Compiled}
-use Rattle.text.specs.declared.compile.Compiled.the-variants.{Written, Refused}
-use Rattle.table_texts.specs.Accepted.{Accepted}
+use Rattle.kronecker.specs.Expansion.{answerKronecker, searchedKronecker}
+use Rattle.kronecker.proofs.expansion.Answer.{answerKronecker-is, answerKronecker-ext}
+use Rattle.kronecker.proofs.answer.Searchable.{searched-kronecker}
+use Rattle.table_texts.specs.declared.sizes.Design.{Design}
+use Rattle.table_texts.specs.Accepted.{Table}
 use Rattle.table_texts.specs.Read.{given}
 use Rattle.listings.specs.inner.Listable.{Listable}
-use Rattle.text.specs.inner.Write.{WriteListing}
-use Rattle.text.specs.Compile.{answerListing, compiled, bufferAfter}
 use Rattle.listings.proofs.ListedAnswers.{answer-listable}
+use Rattle.listing_writing.specs.declared.listed.Listed.{Listed}
+use Rattle.listing_writing.specs.declared.listed.Listed.the-variants as listed
+use Rattle.listing_writing.specs.Write.{WriteListing, KroneckerListable}
+use Rattle.text.specs.declared.compile.Compiled.{Compiled}
+use Rattle.text.specs.declared.compile.Compiled.the-variants.{Written, Refused}
+use Rattle.text.specs.Compile.{answerListing, compiled, bufferAfter}
 
-module _ (z : Sizes) (table : List ℕ) (a : Accepted z table) where
-  size-le : 2 ^ z .n ≤ 256
-  size-le = pow-mono (a .sized .inputs .1)
+module _ (n m : ℕ) (table : List ℕ) (s : TableSized n m) (t : Table n m table) where
+  size-le : 2 ^ n ≤ 256
+  size-le = pow-mono (s .inputs .1)
 
-  -- the part of the table that the search is lent
-  pub part-size : 1 * 2 ^ z .n % 2 ^ 64 ≡ 2 ^ z .n
-  part-size = one-shifted (z .n) (omega (arith, a .sized .inputs .1))
+  -- the part of the table that a search is lent
+  pub part-size : 1 * 2 ^ n % 2 ^ 64 ≡ 2 ^ n
+  part-size = one-shifted n (omega (arith, s .inputs .1))
 
-  pub part-within : 1 * 2 ^ z .n % 2 ^ 64 ≤ length table
-  part-within = omega (arith, part-size, size-le, a .table .long)
+  pub part-within : 1 * 2 ^ n % 2 ^ 64 ≤ length table
+  part-within = omega (arith, part-size, size-le, t .long)
 
   part : List ℕ
-  part = take (1 * 2 ^ z .n % 2 ^ 64) table
+  part = take (1 * 2 ^ n % 2 ^ 64) table
 
-  part-long : length part ≡ 2 ^ z .n
+  part-long : length part ≡ 2 ^ n
   unfolding part
-  part-long = length-take-le (1 * 2 ^ z .n % 2 ^ 64) table part-within ∙ part-size
+  part-long = length-take-le (1 * 2 ^ n % 2 ^ 64) table part-within ∙ part-size
 
-  part-at : (p : ℕ) → p < 2 ^ z .n → at part p ≡ at table p
+  part-at : (p : ℕ) → p < 2 ^ n → at part p ≡ at table p
   unfolding part
-  part-at p h = getD-take (1 * 2 ^ z .n % 2 ^ 64) table p 0 (omega (arith, part-size))
+  part-at p h = getD-take (1 * 2 ^ n % 2 ^ 64) table p 0 (omega (arith, part-size))
 
-  part-clean : T (allBelow (2 ^ z .m) part)
-  part-clean = below-from (2 ^ z .m) part (λ p. go p (decLt p (2 ^ z .n)))
+  part-clean : T (allBelow (2 ^ m) part)
+  part-clean = below-from (2 ^ m) part (λ p. go p (decLt p (2 ^ n)))
     where
-      go : (p : ℕ) → Dec (p < 2 ^ z .n) → at part p < 2 ^ z .m
-      go p (yes h) = rw (part-at p h) (a .table .small p)
-      go p (no h) = rw (List·getD-eq-default part 0 {n = p} (omega (arith, part-long))) (pow-pos (z .m))
+      go : (p : ℕ) → Dec (p < 2 ^ n) → at part p < 2 ^ m
+      go p (yes h) = rw (part-at p h) (t .small p)
+      go p (no h) = rw (List·getD-eq-default part 0 {n = p} (omega (arith, part-long))) (pow-pos m)
 
-  -- the search hands up the answer of the whole table
-  pub searched-table : searched (z .n) (z .m) (z .k) (take (1 * 2 ^ z .n % 2 ^ 64) table) ≡ answerExpansion (z .n) (z .k) (at table)
+  -- the searches hand up the answer of the whole table
+  pub searched-block : (k : ℕ) → Sized n m k → searched n m k (take (1 * 2 ^ n % 2 ^ 64) table) ≡ answerExpansion n k (at table)
   unfolding part
-  searched-table =
-      searched-answer (z .n) (z .m) (z .k) part (a .sized) part-long part-clean
-      ∙ answerExpansion-ext (z .n) (z .k) (at part) (at table) part-at
+  searched-block k z = searched-answer n m k part z part-long part-clean ∙ answerExpansion-ext n k (at part) (at table) part-at
 
-  pub table-listable : Listable (z .n) (z .m) (answerExpansion (z .n) (z .k) (at table))
-  table-listable =
-      let b = a .sized in
-      answer-listable (z .n) (z .m) (z .k) _ (at table) (b .inputs .1) (b .outputs .1) (b .mixed .0) (answerExpansion-is (z .n) (z .k) (at table) (b .inputs .1) (b .mixed .1))
+  pub searched-kind : searchedKronecker n m (take (1 * 2 ^ n % 2 ^ 64) table) ≡ answerKronecker n (at table)
+  unfolding part
+  searched-kind = searched-kronecker n m part s part-long (same-test (allBelow (2 ^ m) part) true (λ t. tt) (λ t. part-clean)) ∙ answerKronecker-ext n (at part) (at table) part-at
+
+  pub block-listable : (k : ℕ) → Sized n m k → Listable n m (answerExpansion n k (at table))
+  block-listable k z =
+      answer-listable n m k _ (at table) (s .inputs .1) (s .outputs .1) (z .mixed .0) (answerExpansion-is n k (at table) (s .inputs .1) (z .mixed .1))
+
+  pub kind-listable : KroneckerListable n m (answerKronecker n (at table))
+  kind-listable =
+      record {
+        inputs = s .inputs .1;
+        outputs = s .outputs .1;
+        counted = answerKronecker-is n (at table) (s .inputs .1) .products-counted;
+      }
 
 -- ---- from the writer's answer to the call's
+
+pub written-as : {x y before after : List ℕ} {r : Listed} → x ≡ y → WriteListing x before r after → WriteListing y before r after
+written-as {x} {y} {before} {after} {r} e w = subst (λ (v : List ℕ). WriteListing v before r after) e w
 
 -- what the call says where the writer says it
 abbrev pub said : Listed → Compiled
@@ -80,12 +97,12 @@ said-cond : (b : Bool) (x y : Listed) → said (cond b x y) ≡ cond b (said x) 
 said-cond true x y = refl
 said-cond false x y = refl
 
-pub compiled-answer : (z : Sizes) (table before after : List ℕ) (r : Listed)
-    → WriteListing (z .n) (z .m) (z .k) (answerExpansion (z .n) (z .k) (at table)) before r after → said r ≡ compiled (given z table) (length before)
-unfolding compiled answerListing
-compiled-answer z table before after r w = ap said (w .answer) ∙ said-cond (leb (length (answerListing z table)) (length before)) _ _
+pub compiled-answer : (d : Design) (table before after : List ℕ) (r : Listed) → WriteListing (answerListing d table) before r after
+    → said r ≡ compiled (given d table) (length before)
+unfolding compiled
+compiled-answer d table before after r w = ap said (w .answer) ∙ said-cond (leb (length (answerListing d table)) (length before)) _ _
 
-pub compiled-bytes : (z : Sizes) (table before after : List ℕ) (r : Listed)
-    → WriteListing (z .n) (z .m) (z .k) (answerExpansion (z .n) (z .k) (at table)) before r after → after ≡ bufferAfter (given z table) before
-unfolding bufferAfter answerListing
-compiled-bytes z table before after r w = w .bytes
+pub compiled-bytes : (d : Design) (table before after : List ℕ) (r : Listed) → WriteListing (answerListing d table) before r after
+    → after ≡ bufferAfter (given d table) before
+unfolding bufferAfter
+compiled-bytes d table before after r w = w .bytes

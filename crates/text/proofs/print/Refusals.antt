@@ -8,17 +8,17 @@ use lib.Dec.{lit<}
 use lib.ListN.{length, replicate, length-append, length-take}
 use Rattle.table_texts.specs.declared.first.FirstLine.the-variants as first
 use Rattle.table_texts.specs.declared.first.FirstLine.{FirstLine}
-use Rattle.table_texts.specs.declared.sizes.Sizes.{Sizes}
+use Rattle.table_texts.specs.declared.sizes.Design.{Design}
 use Rattle.listings.specs.Parts.{parts, bytes}
 use Rattle.table_texts.specs.First.{firstLine}
 use Rattle.listings.specs.Listing.{tabbed, line, decimal}
 use Rattle.listings.specs.Meaning.{firstNumbers}
-use Rattle.table_texts.specs.Read.{Reading, given, refused, withSizes, sizesJudged, judgedFirst, opened, allLines, reading}
+use Rattle.table_texts.specs.Read.{Reading, given, refused, withDesign, designJudged, judgedFirst, opened, allLines, reading}
 use Rattle.lines.specs.Rows as rows
 use Rattle.lines.specs.Rows.{RowsRead, tableGrammar, rowLine}
 use Rattle.lines.proofs.Refusals.{RowsRefusedIn, unfinished-in, rows-refused-in}
-use Rattle.numbers.specs.Refusals.{sizesRefusal}
-use Rattle.numbers.proofs.refusals.Judging.{sizes-most}
+use Rattle.table_texts.specs.Design.{designRefusal}
+use Rattle.table_texts.proofs.Design.{design-most}
 use Rattle.text.specs.Print.{judged, refusedLine}
 use Rattle.listings.proofs.Parts.{others-le}
 use Rattle.listings.proofs.Joined.{Plain, parts-fields, parts-lines}
@@ -37,18 +37,18 @@ refused-widen a b c d (given z table) h g r = tt
 refused-widen a b c d (refused number l) h g r = (r .0, (omega arith, omega arith))
 
 -- the sizes with what the lines after the first give
-with-in : (a b c d : ℕ) (z : Sizes) (x : RowsRead) → c ≤ a → b ≤ d → RowsRefusedIn a b x → RefusedIn c d (withSizes z x)
-unfolding withSizes
+with-in : (a b c d : ℕ) (z : Design) (x : RowsRead) → c ≤ a → b ≤ d → RowsRefusedIn a b x → RefusedIn c d (withDesign z x)
+unfolding withDesign
 with-in a b c d z (rows.rows values) h g r = tt
 with-in a b c d z (rows.refused number l) h g r = (r .0, (omega arith, omega arith))
 
 -- what the first line leads to
-opened-in : (x : FirstLine) (next : Sizes → Reading) (most : ℕ) → 1 ≤ most → ((z : Sizes) → RefusedIn 2 most (next z))
+opened-in : (x : FirstLine) (next : Design → Reading) (most : ℕ) → 1 ≤ most → ((z : Design) → RefusedIn 2 most (next z))
     → RefusedIn 1 most (opened (judgedFirst x) next)
 unfolding judgedFirst
 opened-in first.Wrong next most h ih = ((omega arith, omega arith), (omega arith, h))
-opened-in (first.Table z) next most h ih = by-sizes (sizesRefusal (z .n) (z .m) (z .k)) (sizes-most (z .n) (z .m) (z .k)) where
-  by-sizes : (x : ℕ) → x ≤ 4 → RefusedIn 1 most (opened (sizesJudged x z) next)
+opened-in (first.Table z) next most h ih = by-sizes (designRefusal z) (design-most z) where
+  by-sizes : (x : ℕ) → x ≤ 4 → RefusedIn 1 most (opened (designJudged x z) next)
   by-sizes zero g = refused-widen 2 most 1 most (next z) (omega arith) (omega arith) (ih z)
   by-sizes (suc x) g = ((omega arith, omega arith), (omega arith, h))
 

@@ -1,9 +1,9 @@
--- What is printed fits 5,916 bytes (`printed-within`), and stands at their front: after the text call, where it wrote a listing
+-- What is printed fits 5,919 bytes (`printed-within`), and stands at their front: after the text call, where it wrote a listing
 -- (`print-written`), and after the line `refused` was written, where it refused the text (`print-refused`).
 use mathlib.Core.Bool.{Bool, true, false, cond}
 use mathlib.Core.List.{List, _++_}
 use mathlib.Core.Path.{_≡_, refl, sym, ap, subst, _∙_}
-use Prim.Native.Nat.{ℕ, _+_, _-_, _≤_}
+use Prim.Native.Nat.{ℕ, _-_, _≤_}
 use native.Mathlib.Omega.{arith}
 use borrow.Author.Tests.{le-leb}
 use lib.Dec.{leb}
@@ -13,17 +13,22 @@ use Rattle.numbers.specs.Bytes.{at}
 use Rattle.search.specs.Expansion.{answerExpansion}
 use Rattle.numbers.proofs.Tables.{drop-zeros}
 use Rattle.search.proofs.expansion.Answer.{answerExpansion-is}
-use Rattle.table_texts.specs.declared.sizes.Sizes.{Sizes}
+use Rattle.expansions.specs.declared.kinds.Kind.{Kind}
+use Rattle.expansions.specs.declared.kinds.Kind.the-variants.{Block, Kronecker}
+use Rattle.table_texts.specs.declared.sizes.Design.{Design}
+use Rattle.table_texts.specs.Design.{KindSized}
 use Rattle.text.specs.declared.compile.Compiled.{Compiled}
 use Rattle.text.specs.declared.compile.Compiled.the-variants.{Written, Refused}
 use Rattle.table_texts.specs.Accepted.{Accepted}
 use Rattle.table_texts.specs.Read.{Reading, given, refused, reading}
 use Rattle.writing.specs.Put.{Put}
 use Rattle.listings.specs.Meaning.{firstNumbers, IsListing}
-use Rattle.text.specs.Compile.{answerListing, compiled, bufferAfter, Compile}
+use Rattle.text.specs.Compile.{kindListing, answerListing, compiled, bufferAfter, Compile}
 use Rattle.text.specs.Print.{judged, refusedLine, printedFor, printed, Print}
 use Rattle.table_texts.proofs.read.Accepted.{reading-accepted}
 use Rattle.listings.proofs.Longest.{listing-longest}
+use Rattle.listings.proofs.Kronecker.{kronecker-longest}
+use Rattle.kronecker.proofs.expansion.Answer.{answerKronecker-is}
 use Rattle.table_texts.proofs.Length.{accepted-text-first}
 use Rattle.writing.proofs.Puts.{put-front}
 use Rattle.text.proofs.compile.Listings.{answer-listing}
@@ -31,42 +36,48 @@ use Rattle.text.proofs.print.Refusals.{refusal-said, refused-line-le}
 
 -- ---- what is printed fits
 
-listing-within : (z : Sizes) (table : List ℕ) → Accepted z table → length (answerListing z table) ≤ 5916
+listing-within : (d : Design) (table : List ℕ) → Accepted d table → length (answerListing d table) ≤ 5919
 unfolding answerListing
-listing-within z table a =
-    listing-longest (z .n) (z .m) (z .k) (answerExpansion (z .n) (z .k) (at table)) (at table) (a .sized .inputs .1) (a .sized .outputs .1) (a .sized .mixed .0)
-    (answerExpansion-is (z .n) (z .k) (at table) (a .sized .inputs .1) (a .sized .mixed .1)) (a .sized .mixed .1)
+listing-within d table a = go (d .kind) (a .sized .mixed) where
+  go : (x : Kind) → KindSized (d .n) x → length (kindListing (d .n) (d .m) x table) ≤ 5919
+  go (Block k) s =
+      let most = listing-longest (d .n) (d .m) k (answerExpansion (d .n) k (at table)) (at table) (a .sized .inputs .1) (a .sized .outputs .1) (s .0)
+      (answerExpansion-is (d .n) k (at table) (a .sized .inputs .1) (s .1)) (s .1) in
+      omega (arith, most)
+  go Kronecker s =
+      kronecker-longest (d .n) (d .m) _ _ _ _ (a .sized .inputs .1) (a .sized .outputs .1)
+      (answerKronecker-is (d .n) (at table) (a .sized .inputs .1) .products-counted)
 
-pub printed-within : (input : List ℕ) → length (printed input) ≤ 5916
+pub printed-within : (input : List ℕ) → length (printed input) ≤ 5919
 unfolding printed printedFor
 printed-within input = go (reading (judged input)) refl where
-  go : (x : Reading) → reading (judged input) ≡ x → length (printedFor x) ≤ 5916
+  go : (x : Reading) → reading (judged input) ≡ x → length (printedFor x) ≤ 5919
   go (given z table) e = listing-within z table (reading-accepted (judged input) z table e)
   go (refused number l) e = omega (arith, refused-line-le number l)
 
 -- ---- what is printed at the front of a buffer of zeros
 
 zeros : List ℕ
-zeros = replicate 5916 0
+zeros = replicate 5919 0
 
-zeros-long : length zeros ≡ 5916
+zeros-long : length zeros ≡ 5919
 unfolding zeros
-zeros-long = length-replicate {A = ℕ} 5916 0
+zeros-long = length-replicate {A = ℕ} 5919 0
 
 print-holds : (input held : List ℕ) (count : ℕ) → count ≡ length (printed input)
     → held ≡ printed input ++ drop (length (printed input)) zeros → Print input held count
 unfolding printed printedFor zeros
 print-holds input held count ec eh =
-    let past = drop-zeros (length (printed input)) 5916 (printed-within input) in
-    let filled : held ≡ printed input ++ replicate (5916 - length (printed input)) 0 = eh ∙ ap (λ (v : List ℕ). printed input ++ v) past in
+    let past = drop-zeros (length (printed input)) 5919 (printed-within input) in
+    let filled : held ≡ printed input ++ replicate (5919 - length (printed input)) 0 = eh ∙ ap (λ (v : List ℕ). printed input ++ v) past in
     let shown : take count held ≡ printed input = rw (ec, filled) (take-append-seam (printed input) _) in
     record {
       counted = ec;
       filled = filled;
-      within = omega (arith, ec, ap length filled, length-append (printed input) (replicate (5916 - length (printed input)) 0));
+      within = omega (arith, ec, ap length filled, length-append (printed input) (replicate (5919 - length (printed input)) 0));
       shown = shown;
-      meaning = λ z table e.
-          subst (IsListing (z .n) (z .k) (at table)) (sym (shown ∙ ap printedFor e)) (answer-listing z table (reading-accepted (judged input) z table e));
+      meaning = λ d table e.
+          subst (IsListing (d .n) (d .kind) (at table)) (sym (shown ∙ ap printedFor e)) (answer-listing d table (reading-accepted (judged input) d table e));
       refusal = λ number l e. ap firstNumbers (shown ∙ ap printedFor e) ∙ refusal-said input number l e;
       whole = λ z table e. shown ∙ ap (λ (x : List ℕ). printedFor (reading x)) (accepted-text-first input z table e) ∙ ap printedFor e;
     }
@@ -88,7 +99,7 @@ written-printed (given z table) o held count ea eb = go (leb (length (answerList
 written-printed (refused number l) o held count ea eb = let none : _≡_ {A = ℕ} 0 1 = cc in absurd (omega arith)
 
 -- a buffer that holds every listing: only a refused text is refused
-refused-read : (input o before : List ℕ) (number l : ℕ) → length o ≡ 5916 → Compile (judged input) o before (Refused number l)
+refused-read : (input o before : List ℕ) (number l : ℕ) → length o ≡ 5919 → Compile (judged input) o before (Refused number l)
     → (reading (judged input) ≡ refused number l) × (before ≡ o)
 unfolding compiled bufferAfter
 refused-read input o before number l room c = go (reading (judged input)) refl (c .answer) (c .bytes) where
@@ -101,18 +112,18 @@ refused-read input o before number l room c = go (reading (judged input)) refl (
   go (refused number′ l′) e ea eb = (cc, eb)
 
 pub print-written : (input text held : List ℕ) (r : Compiled) (count : ℕ) → text ≡ judged input → r ≡ Written count
-    → Compile text (replicate 5916 0) held r → Print input held count
+    → Compile text (replicate 5919 0) held r → Print input held count
 unfolding printed zeros
 print-written input text held r count et er c =
-    let found = written-printed (reading (judged input)) (replicate 5916 0) held count (sym er ∙ rw et at (c .answer)) (rw et at (c .bytes)) in
+    let found = written-printed (reading (judged input)) (replicate 5919 0) held count (sym er ∙ rw et at (c .answer)) (rw et at (c .bytes)) in
     print-holds input held count (found .0) (found .1)
 
 pub print-refused : (input text before held : List ℕ) (r : Compiled) (number l count : ℕ) → text ≡ judged input → r ≡ Refused number l
-    → Compile text (replicate 5916 0) before r → Put before 0 (refusedLine number l) held count → Print input held count
+    → Compile text (replicate 5919 0) before r → Put before 0 (refusedLine number l) held count → Print input held count
 unfolding printed printedFor zeros
 print-refused input text before held r number l count et er c put =
-    let call : Compile (judged input) (replicate 5916 0) before (Refused number l) = rw (← et, ← er) c in
-    let found = refused-read input (replicate 5916 0) before number l zeros-long call in
+    let call : Compile (judged input) (replicate 5919 0) before (Refused number l) = rw (← et, ← er) c in
+    let found = refused-read input (replicate 5919 0) before number l zeros-long call in
     let line : printed input ≡ refusedLine number l = ap printedFor (found .0) in
     let room : length (refusedLine number l) ≤ length before = omega (arith, refused-line-le number l, ap length (found .1), zeros-long) in
     print-holds input held count (rw line (omega (arith, put .to)))

@@ -32,8 +32,8 @@ one-digit-requires-2 c κs = search needs
 field-requires-3 : tie.Need-field-requires-3
 field-requires-3 c κs = search needs
 
-mixed-requires : tie.Need-mixed-requires
-mixed-requires c κs = search needs
+kind-of-requires : tie.Need-kind-of-requires
+kind-of-requires c κs = search needs
 
 table-line-requires : tie.Need-table-line-requires
 table-line-requires c κs = search needs
@@ -50,7 +50,7 @@ returns-2 c =
       ← c .before .before .before .before .field2 .ensures,
       ← c .before .before .before .one-digit2 .ensures,
       ← c .before .before .field3 .ensures,
-      ← c .before .mixed .ensures,
+      ← c .before .kind-of .ensures,
     )
 
 pub first-line-spec : {M : Type 1} → statement M
@@ -65,6 +65,6 @@ first-line-spec =
     field-requires-2
     one-digit-requires-2
     field-requires-3
-    mixed-requires
+    kind-of-requires
     table-line-requires
     returns-2)

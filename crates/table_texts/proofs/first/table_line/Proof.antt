@@ -21,8 +21,8 @@ enum-told-2 c = search needs
 returns-2 : tie.Need-returns-2
 returns-2 c = search needs
 
-enum-known-k : tie.Need-enum-known-k
-enum-known-k c = search needs
+enum-known-kind : tie.Need-enum-known-kind
+enum-known-kind c = search needs
 
 enum-told-3 : tie.Need-enum-told-3
 enum-told-3 c = search needs
@@ -43,7 +43,7 @@ table-line-spec =
     enum-known-m
     enum-told-2
     returns-2
-    enum-known-k
+    enum-known-kind
     enum-told-3
     returns-3
     returns-4)

@@ -1,8 +1,8 @@
--- `judge_points` meets its contract: what the lines mean, with the sizes.
+-- `judge_points` meets its contract: what the lines mean, with the design.
 use mathlib.Core.Path.{ap}
 use borrow.Author.Needs.{needs}
 use Rattle.lines.specs.Rows as later
-use Rattle.table_texts.specs.Read.{withSizes, standsFor}
+use Rattle.table_texts.specs.Read.{withDesign, standsFor}
 use Rattle.table_texts.proofs.read.judge_points.Statement.{statement}
 use Rattle.table_texts.proofs.read.judge_points.Tie as tie
 
@@ -16,13 +16,13 @@ enum-known-number : tie.Need-enum-known-number
 enum-known-number c = search needs
 
 returns : tie.Need-returns
-unfolding standsFor withSizes later.standsFor
-returns c = ap (withSizes (c .before .before .before .before .before .args .sizes)) (rw (c .enum-told .given .1) at (c .before .before .judge-rows .ensures))
+unfolding standsFor withDesign later.standsFor
+returns c = ap (withDesign (c .before .before .before .before .before .args .design)) (rw (c .enum-told .given .1) at (c .before .before .judge-rows .ensures))
 
 returns-2 : tie.Need-returns-2
-unfolding standsFor withSizes later.standsFor
+unfolding standsFor withDesign later.standsFor
 returns-2 c =
-    ap (withSizes (c .before .before .before .before .before .before .args .sizes)) (rw (c .before .number .given .1) at (c .before .before .before .judge-rows .ensures))
+    ap (withDesign (c .before .before .before .before .before .before .args .design)) (rw (c .before .number .given .1) at (c .before .before .before .judge-rows .ensures))
 
 pub judge-points-spec : {M : Type 1} → statement M
 judge-points-spec =

@@ -49,8 +49,8 @@ slice-aggregate-judge-first c = sym (length-take-le _ _ (omega (arith, before-en
 judge-first-requires : tie.Need-judge-first-requires
 judge-first-requires c κs = search needs
 
-enum-known-sizes : tie.Need-enum-known-sizes
-enum-known-sizes c = search needs
+enum-known-design : tie.Need-enum-known-design
+enum-known-design c = search needs
 
 next-line-requires : tie.Need-next-line-requires
 next-line-requires c κs =
@@ -59,7 +59,7 @@ next-line-requires c κs =
 
 judge-points-requires : tie.Need-judge-points-requires
 judge-points-requires c κs =
-    let limits = first-sized _ _ (sym (c .before .before .before .before .before .judge-first .ensures) ∙ c .before .before .before .sizes .given .1) in
+    let limits = first-sized _ _ (sym (c .before .before .before .before .before .judge-first .ensures) ∙ c .before .before .before .design .given .1) in
     let at = c .before .next-line .ensures .0 in
     let line = second-line (c .before) in
     (record { inside = omega (arith, before-end (c .before .before .before .before .before .before .before), at); counted = omega (arith, at) }, limits .inputs .1, limits .outputs .1)
@@ -73,7 +73,7 @@ returns-2 c =
     ∙ rw (c .before .before .next-line .ensures .0, second-line (c .before .before), c .before .before .before .before .before .before .before .before .before .before .before .before .pre)
     (sym
     (text-judged _ _ (first-stop (c .before .before .before .before .before .before .before .before .before)) (before-end (c .before .before .before .before .before .before .before .before))
-    ∙ rw (← c .before .before .before .before .before .before .judge-first .ensures, c .before .before .before .before .sizes .given .1)))
+    ∙ rw (← c .before .before .before .before .before .before .judge-first .ensures, c .before .before .before .before .design .given .1)))
 
 returns-3 : tie.Need-returns-3
 unfolding standsFor
@@ -93,7 +93,7 @@ judge-text-spec =
     returns
     slice-aggregate-judge-first
     judge-first-requires
-    enum-known-sizes
+    enum-known-design
     next-line-requires
     judge-points-requires
     enum-known-number

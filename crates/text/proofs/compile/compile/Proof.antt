@@ -16,14 +16,14 @@ slice-aggregate-read-table c = search needs
 read-table-requires : tie.Need-read-table-requires
 read-table-requires c κs = search needs
 
-enum-known-sizes : tie.Need-enum-known-sizes
-enum-known-sizes c = search needs
+enum-known-design : tie.Need-enum-known-design
+enum-known-design c = search needs
 
 slice-aggregate-compile-table : tie.Need-slice-aggregate-compile-table
 slice-aggregate-compile-table c = search needs
 
 compile-table-requires : tie.Need-compile-table-requires
-compile-table-requires c κs = reading-accepted _ _ _ (reads-given _ _ _ _ (c .before .before .before .sizes .given .1) (means (c .before .before .before .before .before .before)))
+compile-table-requires c κs = reading-accepted _ _ _ (reads-given _ _ _ _ (c .before .before .before .design .given .1) (means (c .before .before .before .before .before .before)))
 
 enum-known-number : tie.Need-enum-known-number
 enum-known-number c = search needs
@@ -33,7 +33,7 @@ same-length c = search needs
 
 returns : tie.Need-returns
 returns c =
-    let e = reads-given _ _ _ _ (c .before .before .before .before .before .before .sizes .given .1) (means (c .before .before .before .before .before .before .before .before .before)) in
+    let e = reads-given _ _ _ _ (c .before .before .before .before .before .before .design .given .1) (means (c .before .before .before .before .before .before .before .before .before)) in
     compile-given _ _ _ _ _ _ e (c .before .before .compile-table .ensures .0) (c .before .before .compile-table .ensures .1)
 
 returns-2 : tie.Need-returns-2
@@ -45,7 +45,7 @@ compile-spec =
     (tie.spec
     slice-aggregate-read-table
     read-table-requires
-    enum-known-sizes
+    enum-known-design
     slice-aggregate-compile-table
     compile-table-requires
     enum-known-number

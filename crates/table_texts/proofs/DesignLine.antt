@@ -1,0 +1,144 @@
+-- The first line of a table text. It is read as the design that it was written for (`design-said`), and a line that says a design is the line that
+-- is written for it, with the digit k or `K`, or where k is 1 with `-` (`design-read`, `kind-read`).
+use mathlib.Core.Bool.{Bool, true, false, cond}
+use mathlib.Core.List.{List, [], _∷_, _++_}
+use mathlib.Core.Logic.{_⊎_, inl, inr}
+use mathlib.Core.Path.{_≡_, refl, ap, ap₂, _∙_}
+use Prim.Native.Nat.{ℕ, _+_, _<_}
+use native.Mathlib.Omega.{arith}
+use borrow.Author.Tests.{ne-eqb}
+use lib.Dec.{eqb, lit<}
+use Rattle.expansions.specs.declared.kinds.Kind.{Kind}
+use Rattle.expansions.specs.declared.kinds.Kind.the-variants.{Block, Kronecker}
+use Rattle.listings.specs.Parts.{parts, bytes, same, fields, field}
+use Rattle.listings.specs.Listing.{tabbed, decimal}
+use Rattle.listings.proofs.Joined.{Plain, parts-fields}
+use Rattle.listings.proofs.Meaning.{plain-decimal}
+use Rattle.listings.proofs.Words.{same-equal}
+use Rattle.lines.specs.declared.values.Number.{Number}
+use Rattle.lines.specs.declared.values.Number.the-variants.{Is, Wrong}
+use Rattle.lines.specs.Fields.{oneDigit, headed}
+use Rattle.lines.proofs.Written.{decimal-one, oneDigit-decimal}
+use Rattle.lines.proofs.FieldsRead.{oneDigit-read}
+use Rattle.lines.proofs.Headed.{list-each, headed-read}
+use Rattle.table_texts.specs.declared.first.KindRead.{KindRead}
+use Rattle.table_texts.specs.declared.first.KindRead.the-variants as kind
+use Rattle.table_texts.specs.declared.first.FirstLine.the-variants as first
+use Rattle.table_texts.specs.declared.sizes.Design.{Design}
+use Rattle.table_texts.specs.Design.{KindSized}
+use Rattle.table_texts.specs.First.{digitKind, kindOf, tableLine, firstLine}
+use Rattle.table_texts.specs.TableTexts.{kindField}
+
+-- ---- the kind of k
+
+pub kind-decimal : (x : ℕ) → x < 10 → kindOf (decimal x) ≡ kind.Is (Block x)
+unfolding kindOf same bytes
+kind-decimal x h =
+    let dash : eqb (48 + x) 45 ≡ false = ne-eqb (48 + x) 45 (λ e. omega arith) in
+    let letter : eqb (48 + x) 75 ≡ false = ne-eqb (48 + x) 75 (λ e. omega arith) in
+    ap kindOf (decimal-one x h) ∙ rw (dash, letter) (ap digitKind (rw (decimal-one x h) at (oneDigit-decimal x h)))
+
+pub kind-dash : kindOf (bytes "-") ≡ kind.Is (Block 1)
+unfolding kindOf same bytes
+kind-dash = refl
+
+pub kind-kronecker : kindOf (bytes "K") ≡ kind.Is Kronecker
+unfolding kindOf same bytes
+kind-kronecker = refl
+
+-- the characters that are written for a kind say it
+pub kind-said : (n : ℕ) (x : Kind) → KindSized n x → kindOf (kindField x) ≡ kind.Is x
+unfolding kindField
+kind-said n (Block k) s = kind-decimal k (omega (arith, s .0))
+kind-said n Kronecker s = kind-kronecker
+
+wrong-kind : {x : Kind} → kind.Wrong ≡ kind.Is x → ⊥
+wrong-kind e = let z : _≡_ {A = ℕ} 0 1 = cc in omega arith
+
+digit-read : (f : List ℕ) (x : Kind) (d : Number) → oneDigit f ≡ d → digitKind d ≡ kind.Is x → f ≡ kindField x
+unfolding kindField
+digit-read f x (Is k) h e =
+    let same : Block k ≡ x = cc in
+    oneDigit-read f k h ∙ ap kindField same
+digit-read f x Wrong h e = absurd (wrong-kind e)
+
+-- characters that say a kind are those that are written for it, or `-` for 1
+pub kind-read : (f : List ℕ) (x : Kind) → kindOf f ≡ kind.Is x → (f ≡ kindField x) ⊎ ((x ≡ Block 1) × (f ≡ bytes "-"))
+unfolding kindOf kindField
+kind-read f x e = go (same f (bytes "-")) refl (same f (bytes "K")) refl e where
+  go : (t : Bool) → same f (bytes "-") ≡ t → (u : Bool) → same f (bytes "K") ≡ u
+      → cond t (kind.Is (Block 1)) (cond u (kind.Is Kronecker) (digitKind (oneDigit f))) ≡ kind.Is x
+      → (f ≡ kindField x) ⊎ ((x ≡ Block 1) × (f ≡ bytes "-"))
+  go true h u k g = inr (cc, same-equal f (bytes "-") h)
+  go false h true k g =
+      let is : Kronecker ≡ x = cc in
+      inl (same-equal f (bytes "K") k ∙ ap kindField is)
+  go false h false k g = inl (digit-read f x (oneDigit f) refl g)
+
+-- ---- what is written is read
+
+pub plain-table : Plain (bytes "table")
+unfolding bytes
+plain-table = (lit< tt, (lit< tt, (lit< tt, (lit< tt, (lit< tt, tt)))))
+
+pub plain-dash : Plain (bytes "-")
+unfolding bytes
+plain-dash = (lit< tt, tt)
+
+pub plain-kind : (x : Kind) → Plain (kindField x)
+unfolding kindField bytes
+plain-kind (Block k) = plain-decimal k
+plain-kind Kronecker = (lit< tt, tt)
+
+pub design-said : (d : Design) (k : List ℕ) → d .n < 10 → d .m < 10 → Plain k → kindOf k ≡ kind.Is (d .kind)
+    → firstLine (bytes "table" ++ tabbed (decimal (d .n) ∷ decimal (d .m) ∷ k ∷ [])) ≡ first.Table d
+unfolding firstLine headed fields same bytes
+design-said d k hn hm p e =
+    rw (
+      parts-fields (bytes "table") (decimal (d .n) ∷ decimal (d .m) ∷ k ∷ []) plain-table (plain-decimal (d .n), (plain-decimal (d .m), (p, tt))),
+      oneDigit-decimal (d .n) hn,
+      oneDigit-decimal (d .m) hm,
+      e,
+    )
+
+-- ---- what is read is what is written
+
+-- the characters of a first line that gives the design d; `kind-field` are those for k
+pub record DesignRead (l : List ℕ) (d : Design) : Type 0 where
+  pub kind-field : List ℕ
+  pub characters : l ≡ bytes "table" ++ tabbed (decimal (d .n) ∷ decimal (d .m) ∷ kind-field ∷ [])
+  pub said : kindOf kind-field ≡ kind.Is (d .kind)
+
+wrong-table : {d : Design} → first.Wrong ≡ first.Table d → ⊥
+wrong-table e = let z : _≡_ {A = ℕ} 0 1 = cc in omega arith
+
+table-read : (x y : Number) (w : KindRead) (d : Design) → tableLine x y w ≡ first.Table d
+    → (x ≡ Is (d .n)) × (y ≡ Is (d .m)) × (w ≡ kind.Is (d .kind))
+table-read (Is a) (Is b) (kind.Is c) d e =
+    let same : record { n = a; m = b; kind = c } ≡ d = cc in
+    (ap (λ (y : Design). Is (y .n)) same, ap (λ (y : Design). Is (y .m)) same, ap (λ (y : Design). kind.Is (y .kind)) same)
+table-read (Is a) (Is b) kind.Wrong d e = absurd (wrong-table e)
+table-read (Is a) Wrong w d e = absurd (wrong-table e)
+table-read Wrong y w d e = absurd (wrong-table e)
+
+pub design-read : (l : List ℕ) (d : Design) → firstLine l ≡ first.Table d → DesignRead l d
+unfolding firstLine fields
+design-read l d e = go (headed 4 (bytes "table") l) refl e where
+  go : (t : Bool) → headed 4 (bytes "table") l ≡ t
+      → cond t (tableLine (oneDigit (field 1 l)) (oneDigit (field 2 l)) (kindOf (field 3 l))) first.Wrong ≡ first.Table d → DesignRead l d
+  go false h g = absurd (wrong-table g)
+  go true h g =
+      let shape = headed-read 3 (bytes "table") l h in
+      let said = table-read (oneDigit (field 1 l)) (oneDigit (field 2 l)) (kindOf (field 3 l)) d g in
+      let three = list-each (parts 9 l .others) 3 (shape .1) in
+      record {
+        kind-field = field 3 l;
+        characters =
+            shape .0
+            ∙ ap (λ (fs : List (List ℕ)). bytes "table" ++ tabbed fs)
+            (three
+            ∙ ap₂ (λ (f g : List ℕ). f ∷ g ∷ field 3 l ∷ [])
+            (oneDigit-read (field 1 l) (d .n) (said .0))
+            (oneDigit-read (field 2 l) (d .m) (said .1)));
+        said = said .2;
+      }
