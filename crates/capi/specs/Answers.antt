@@ -6,10 +6,13 @@ use Rattle.numbers.specs.Bytes.{at}
 use Rattle.algebra.specs.Calls.{transformRefusal, transformed}
 use Rattle.algebra.specs.declared.calls.Transformed.{Transformed}
 use Rattle.algebra.specs.declared.calls.Transformed.the-variants.{Done, Refused}
+use Rattle.expansions.specs.declared.kinds.Kind.{Kind}
+use Rattle.expansions.specs.declared.kinds.Kind.the-variants.{Block, Kronecker}
 use Rattle.search.specs.Calls as minimising
 use Rattle.search.specs.Expansion.{answerExpansion}
 use Rattle.search.specs.declared.calls.Minimised.{Minimised}
 use Rattle.search.specs.declared.calls.Minimised.the-variants as minimised
+use Rattle.table_texts.specs.declared.sizes.Design.{Design}
 use Rattle.table_texts.specs.Read as reading
 use Rattle.text.specs.declared.compile.Compiled.{Compiled}
 use Rattle.text.specs.declared.compile.Compiled.the-variants as compiled
@@ -34,10 +37,19 @@ unfoldable pub minimumNumbers : Minimised → List ℕ
 minimumNumbers (minimised.Found M i products literals) = 0 ∷ 0 ∷ M ∷ i ∷ products ∷ literals ∷ []
 minimumNumbers (minimised.Refused number line) = number ∷ line ∷ 0 ∷ 0 ∷ 0 ∷ 0 ∷ []
 
--- "returns n, m, k", after the number and the line, all 0 under a refusal
+-- k and "the kind of k": 1 where k is a number, and 2 with k = 0 for `K`
+abbrev pub kindNumbers : Kind → List ℕ
+kindNumbers (Block k) = k ∷ 1 ∷ []
+kindNumbers Kronecker = 0 ∷ 2 ∷ []
+
+-- "returns n, m, k", and "returns the kind of k", after the number and the line
+unfoldable pub designNumbers : Design → List ℕ
+designNumbers d = 0 ∷ 0 ∷ d .n ∷ d .m ∷ kindNumbers (d .kind)
+
+-- the numbers of the design that was read, all 0 under a refusal
 unfoldable pub readNumbers : reading.Reading → List ℕ
-readNumbers (reading.given sizes table) = 0 ∷ 0 ∷ sizes .n ∷ sizes .m ∷ sizes .k ∷ []
-readNumbers (reading.refused number line) = number ∷ line ∷ 0 ∷ 0 ∷ 0 ∷ []
+readNumbers (reading.given design table) = designNumbers design
+readNumbers (reading.refused number line) = number ∷ line ∷ 0 ∷ 0 ∷ 0 ∷ 0 ∷ []
 
 -- "returns the length", after the number and the line, 0 under a refusal
 unfoldable pub listingNumbers : Compiled → List ℕ

@@ -1,6 +1,8 @@
-// The reading call and the text call. The reading call's answer is five numbers: the refusal's number and its line, n, m and k. The text
-// call's answer is three: the refusal's number and its line, and the listing's length.
+// The reading call and the text call. The reading call's answer is six numbers: the refusal's number and its line, n, m, k and the kind of k.
+// The text call's answer is three: the refusal's number and its line, and the listing's length.
+use expansions::kinds::Kind;
 use table_texts::read::ReadAnswer;
+use table_texts::sizes::Design;
 use text::compile::Compiled;
 ghost use mathlib.Core.List.{List};
 ghost use mathlib.Core.Path.{_≡_};
@@ -8,15 +10,26 @@ ghost use Prim.Native.Nat.{ℕ};
 ghost use lib.ListN.{length};
 ghost use Rattle.table_texts.specs.Read.{reading, lent, standsFor, tableAfter};
 ghost use Rattle.text.specs.Compile.{compiled, Compile};
-ghost use Rattle.capi.specs.Answers.{readNumbers, listingNumbers};
+ghost use Rattle.capi.specs.Answers.{designNumbers, readNumbers, listingNumbers};
+
+// The numbers that stand for a design that was read. The kind is 1 where k is a number, and 2 with k = 0 for `K`.
+fn design_numbers(design: Design) -> [u64; 6]
+    ensures { λ a. ⌜ a ≡ designNumbers design ⌝ }
+{
+    let kind = design.kind;
+    match kind {
+        Kind::Block(k) => [0, 0, design.n as u64, design.m as u64, k as u64, 1],
+        Kind::Kronecker => [0, 0, design.n as u64, design.m as u64, 0, 2],
+    }
+}
 
 // The numbers that stand for the reading call's answer.
-fn read_numbers(r: ReadAnswer) -> [u64; 5]
+fn read_numbers(r: ReadAnswer) -> [u64; 6]
     ensures { λ a. ⌜ ((table : List ℕ) → a ≡ readNumbers (standsFor r table)) ⌝ }
 {
     match r {
-        ReadAnswer::Given(sizes) => [0, 0, sizes.n as u64, sizes.m as u64, sizes.k as u64],
-        ReadAnswer::Refused { number, line } => [number as u64, line as u64, 0, 0, 0],
+        ReadAnswer::Given(design) => design_numbers(design),
+        ReadAnswer::Refused { number, line } => [number as u64, line as u64, 0, 0, 0, 0],
     }
 }
 
@@ -32,7 +45,7 @@ fn listing_numbers(r: Compiled) -> [u64; 3]
 
 // Takes a table text and fills a table of 256 bytes, as `table_texts::read::read_table` does, which judges and refuses.
 #[no_mangle]
-pub extern "C" fn mipaldoz_read(text: &[u8], table: &mut [u8], answer: &mut [u64; 5])
+pub extern "C" fn mipaldoz_read(text: &[u8], table: &mut [u8], answer: &mut [u64; 6])
     ensures bytes { λ _. ⌜ now (table .exit) ≡ tableAfter (lent (reading (now (text .entry))) (length (now (table .entry)))) (now (table .entry)) ⌝ }
     ensures answer { λ _. ⌜ now (answer .exit) ≡ readNumbers (lent (reading (now (text .entry))) (length (now (table .entry)))) ⌝ }
 {

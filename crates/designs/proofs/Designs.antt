@@ -22,20 +22,29 @@ use Rattle.expansions.specs.Least.{better, firstLeast, chosen}
 use Rattle.expansions.specs.BlockTable.{entry}
 use Rattle.expansions.specs.Answers.{blockFunction, memberCoefficient, blockCharge, leastPolarity, pairCharge, validPair, leastPair}
 use Rattle.expansions.specs.Answers.{answerPair, answerMixed, answerFixed, answerPolarity, answerCoefficient}
+use Rattle.expansions.specs.kronecker.Letters.{literalOf, literalTrue, literalCount, lettersOf}
+use Rattle.expansions.specs.kronecker.Steps.{stepValue, without, kroneckerStep, kroneckerCoefficient}
+use Rattle.expansions.specs.kronecker.Costs.{termLiterals, kroneckerLiterals, kroneckerCharge}
+use Rattle.expansions.specs.kronecker.Answers.{kindCharge, answerKind}
+use Rattle.expansions.specs.kronecker.Answers as kronecker
 use Rattle.search.specs.Expansion.{answerExpansion}
+use Rattle.kronecker.specs.Expansion.{answerKronecker}
 use Rattle.listings.specs.Parts.{parts, fields, bytes, same}
 use Rattle.numbers.specs.Nonzero.{ifNonzero, overNonzero}
-use Rattle.listings.specs.Listing.{tabbed, line, descending, digitCount, decimal, cubeByte, cube, outputBytes, formLine, termLine, listingWith, listing}
+use Rattle.listings.specs.Listing.{tabbed, line, descending, digitCount, decimal, cubeByte, cube, outputBytes, formLine, cubeLine, listingWith, listing}
 use Rattle.listings.proofs.Words.{same-equal}
 use Rattle.listings.specs.Meaning.{allows, cubeTrue, literalsIn, outputsSaid, finished, linesOf, ofTerm, overLines, overTerms}
 use Rattle.listings.specs.Meaning.{listingValue, listingProducts, listingLiterals, numberSaid, firstNumbers}
 use Rattle.lines.specs.Fields.{digit, oneDigit, digitsFrom, wellFormed, number, bits, outputs, headed}
 use Rattle.lines.specs.Rows.{onRow, rowLine, unfinished, ended, laterLines}
-use Rattle.table_texts.specs.First.{mixed, firstLine}
-use Rattle.table_texts.specs.Read.{withSizes, judgedFirst, allLines, reading}
+use Rattle.listings.specs.Kronecker.{letterByte, letterBytes, literalByte, kroneckerCube, kroneckerLine, kroneckerListing}
+use Rattle.table_texts.specs.Design.{designRefusal}
+use Rattle.table_texts.specs.First.{kindOf, firstLine}
+use Rattle.table_texts.specs.Read.{withDesign, judgedFirst, allLines, reading}
 use Rattle.text.specs.Compile.{answerListing}
 use Rattle.text.specs.Print.{refusedLine, printedFor, printed}
-use Rattle.designs.specs.Designs.{costOf, termsBelow, computed, Design, states, Holds, markedDesigns, orTable, zeroTable, oneTable, pointTable, withoutTable, printedTable}
+use Rattle.designs.specs.Designs.{costOf, termsBelow, computed, Design, states, Holds, markedDesigns}
+use Rattle.designs.specs.Designs.{orTable, zeroTable, oneTable, pointTable, withoutTable, printedTable, splitTable, plainTable, endsTable, oneOfThreeTable}
 
 -- ---- the test
 
@@ -64,14 +73,18 @@ all-hold (e ∷ ds) t d m = go (all-hold ds (and-right (agrees e) (allAgree ds) 
 
 all-agree : T (allAgree markedDesigns)
 unfolding same agrees allAgree markedDesigns computed termsBelow orTable zeroTable oneTable pointTable withoutTable printedTable
+    splitTable plainTable endsTable oneOfThreeTable
     foldBelow inside pack only tabulate tableRefusal sizesRefusal onesIn ones xorInside coefficient entry
     putDigit lowDigit dropDigit gather spread outside join polarity counted weight products literals better firstLeast chosen
     blockFunction memberCoefficient blockCharge leastPolarity pairCharge validPair leastPair
     answerPair answerMixed answerFixed answerPolarity answerCoefficient answerExpansion
-    parts fields bytes tabbed line descending digitCount decimal cubeByte cube outputBytes formLine termLine ifNonzero overNonzero listingWith listing
+    literalOf literalTrue literalCount lettersOf stepValue without kroneckerStep kroneckerCoefficient termLiterals kroneckerLiterals kroneckerCharge
+    kindCharge answerKind kronecker.answerCoefficient answerKronecker
+    letterByte letterBytes literalByte kroneckerCube kroneckerLine kroneckerListing designRefusal
+    parts fields bytes tabbed line descending digitCount decimal cubeByte cube outputBytes formLine cubeLine ifNonzero overNonzero listingWith listing
     allows cubeTrue literalsIn outputsSaid finished linesOf ofTerm overLines overTerms listingValue listingProducts listingLiterals
-    numberSaid firstNumbers digit oneDigit mixed digitsFrom wellFormed number bits outputs headed firstLine onRow rowLine
-    unfinished ended laterLines withSizes judgedFirst allLines reading answerListing refusedLine printedFor printed
+    numberSaid firstNumbers digit oneDigit kindOf digitsFrom wellFormed number bits outputs headed firstLine onRow rowLine
+    unfinished ended laterLines withDesign judgedFirst allLines reading answerListing refusedLine printedFor printed
 all-agree = tt
 
 pub designs-hold : (d : Design) → List·Memᴰ d markedDesigns → Holds d

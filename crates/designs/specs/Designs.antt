@@ -1,6 +1,6 @@
--- Document 01, "Marked designs", its printed example, the limits that it names and some worked texts and listings, as one table: "The marked
--- designs form one proved table over the definitions with a shared statement". A row is a question about the definitions and the numbers
--- that document 01 answers it with; bytes are numbers too. The one statement is that they are equal, at every row (proofs/Designs,
+-- Document 01, "Marked designs", its printed example, the limits that it names and some worked texts and listings, with designs for document 02's
+-- `K`, as one table: "The marked designs form one proved table over the definitions with a shared statement". A row is a question about the
+-- definitions and the numbers that answer it; bytes are numbers too. The one statement is that they are equal, at every row (proofs/Designs,
 -- `designs-hold`).
 use mathlib.Core.List.{List, [], _∷_, _++_}
 use mathlib.Core.Path.{_≡_}
@@ -12,9 +12,15 @@ use Rattle.algebra.specs.Coefficients.{coefficient}
 use Rattle.expansions.specs.Costs.{products, literals}
 use Rattle.expansions.specs.BlockTable.{entry}
 use Rattle.expansions.specs.Answers.{answerMixed, answerFixed, answerCoefficient}
+use Rattle.expansions.specs.declared.kinds.Kind.{Kind}
+use Rattle.expansions.specs.declared.kinds.Kind.the-variants.{Block, Kronecker}
+use Rattle.expansions.specs.kronecker.Costs.{kroneckerLiterals}
+use Rattle.expansions.specs.kronecker.Answers as kronecker
+use Rattle.expansions.specs.kronecker.Answers.{answerLetters}
 use Rattle.search.specs.declared.expansion.Expansion.{Expansion}
 use Rattle.listings.specs.Parts.{bytes}
 use Rattle.listings.specs.Listing.{listing}
+use Rattle.listings.specs.Kronecker.{letterBytes}
 use Rattle.listings.specs.Meaning.{listingValue, listingProducts, listingLiterals, firstNumbers}
 use Rattle.table_texts.specs.Read.{Reading, given, refused, reading}
 use Rattle.text.specs.Print.{printed}
@@ -31,6 +37,8 @@ pub data Asked : Type 0 where
   answerFor : (n k : ℕ) → List ℕ → Asked
   -- its products and literals
   costOf : (n k : ℕ) → List ℕ → Asked
+  -- the letters, from xn down, and the products and literals of the Kronecker answer for a table of n inputs
+  kindFor : (n : ℕ) → List ℕ → Asked
   -- what a table text means
   meaningOf : String → Asked
   -- what the program prints for a text: the listing of the answer, or the line `refused`
@@ -53,9 +61,22 @@ termsBelow (suc N) c = elim (c N) [ zero ↦ termsBelow N c | suc x ↦ termsBel
 abbrev pub costs : ℕ → ℕ → List ℕ → List ℕ
 costs n k table = products n (answerCoefficient n k (at table)) ∷ literals n (answerCoefficient n k (at table)) ∷ []
 
--- an accepted text: n, m, k and the 256 bytes of its table
-abbrev pub accepted : (n m k : ℕ) → List ℕ → List ℕ
-accepted n m k table = n ∷ m ∷ k ∷ table
+-- the letters from xn down, and the products and literals, of the Kronecker answer
+abbrev pub kindCosts : ℕ → List ℕ → List ℕ
+kindCosts n table =
+    letterBytes n (answerLetters n (at table))
+    ++ products n (kronecker.answerCoefficient n (at table))
+    ∷ kroneckerLiterals n (answerLetters n (at table)) (kronecker.answerCoefficient n (at table))
+    ∷ []
+
+-- the kind of k, in numbers: k itself, or the character `K`
+abbrev pub kindStated : Kind → List ℕ
+kindStated (Block k) = k ∷ []
+kindStated Kronecker = bytes "K"
+
+-- an accepted text: n, m, the kind of k and the 256 bytes of its table
+abbrev pub accepted : (n m : ℕ) → Kind → List ℕ → List ℕ
+accepted n m kind table = n ∷ m ∷ kindStated kind ++ table
 
 -- a refused text: "A refusal returns its number and the line"
 abbrev pub refusal : (number line : ℕ) → List ℕ
@@ -63,7 +84,7 @@ refusal number line = number ∷ line ∷ []
 
 -- what a text means, in numbers: two under a refusal, and more where it is accepted
 abbrev pub meaning : Reading → List ℕ
-meaning (given sizes table) = accepted (sizes .n) (sizes .m) (sizes .k) table
+meaning (given design table) = accepted (design .n) (design .m) (design .kind) table
 meaning (refused number line) = refusal number line
 
 -- the numbers that the definitions give
@@ -72,6 +93,7 @@ computed (termsAt n w table) = termsBelow (2 ^ n) (coefficient n w (at table))
 computed (entryAt g φ) = entry g φ ∷ []
 computed (answerFor n k table) = answerMixed n k (at table) ∷ answerFixed n k (at table) ∷ costs n k table
 computed (costOf n k table) = costs n k table
+computed (kindFor n table) = kindCosts n table
 computed (meaningOf text) = meaning (reading (bytes text))
 computed (printedOf text) = printed (bytes text)
 computed (listingOf n m k e) = listing n m k e
@@ -137,6 +159,30 @@ pointListing = "form\t1\t1\t0\t0\t1\t1\t1\nterm\t0\t1\nend\n"
 abbrev pub orListing : String
 orListing = "form\t2\t1\t0\t0\t0\t3\t4\nterm\t-1\t1\nterm\t1-\t1\nterm\t11\t1\nend\n"
 
+-- output 0 is x2 complemented, output 1 is x1 with x2 (n = 2): x2 is taken the Shannon way
+unfoldable pub splitTable : List ℕ
+splitTable = 1 ∷ 1 ∷ 0 ∷ 2 ∷ []
+
+-- the text of that design, with `K`
+abbrev pub splitText : String
+splitText = "table\t2\t2\tK\non\t0\t10\non\t1\t10\non\t3\t01\nend\n"
+
+-- its listing: x2 Shannon, x1 positive Davio
+abbrev pub splitListing : String
+splitListing = "kron\t2\t2\tSP\t2\t3\nterm\t0-\t10\nterm\t11\t01\nend\n"
+
+-- x1 of two inputs
+unfoldable pub plainTable : List ℕ
+plainTable = 0 ∷ 1 ∷ 0 ∷ 1 ∷ []
+
+-- points 0 and 7 of three inputs, an output each: a decoder of two addresses
+unfoldable pub endsTable : List ℕ
+endsTable = 1 ∷ 0 ∷ 0 ∷ 0 ∷ 0 ∷ 0 ∷ 0 ∷ 2 ∷ []
+
+-- exactly one of three inputs
+unfoldable pub oneOfThreeTable : List ℕ
+oneOfThreeTable = 0 ∷ 1 ∷ 1 ∷ 0 ∷ 1 ∷ 0 ∷ 0 ∷ 0 ∷ []
+
 -- the listing of one product of four inputs
 abbrev pub fourListing : String
 fourListing = "form\t4\t1\t0\t0\t10\t1\t4\nterm\t0101\t1\nend\n"
@@ -189,17 +235,17 @@ markedDesigns =
     -- "the line `refused`, number, line"
     ∷ states (printedOf "table\t2\t1\t1\non\t1\t1\non\t1\t1\nend\n") (bytes "refused\t5\t3\n")
     -- the reading call "fills a lent table of 256 bytes, zero from 2^n on, and returns n, m, k"
-    ∷ states (meaningOf printedText) (accepted 2 2 1 (printedTable ++ replicate 252 0))
+    ∷ states (meaningOf printedText) (accepted 2 2 (Block 1) (printedTable ++ replicate 252 0))
     -- "Empty text is refusal 6, line 1."
     ∷ states (meaningOf "") (refusal 6 1)
     -- "n = 8 with point 255 is accepted, 256 is refusal 5."
-    ∷ states (meaningOf "table\t8\t1\t0\non\t255\t1\nend\n") (accepted 8 1 0 (set zeros 255 1))
+    ∷ states (meaningOf "table\t8\t1\t0\non\t255\t1\nend\n") (accepted 8 1 (Block 0) (set zeros 255 1))
     ∷ states (meaningOf "table\t8\t1\t0\non\t256\t1\nend\n") (refusal 5 2)
     -- "n = 2, k = 2 is accepted, n = 2, k = 3 is refusal 4."
-    ∷ states (meaningOf "table\t2\t1\t2\nend\n") (accepted 2 1 2 zeros)
+    ∷ states (meaningOf "table\t2\t1\t2\nend\n") (accepted 2 1 (Block 2) zeros)
     ∷ states (meaningOf "table\t2\t1\t3\nend\n") (refusal 4 1)
     -- "k may be `-`, which means 1"
-    ∷ states (meaningOf "table\t2\t1\t-\nend\n") (accepted 2 1 1 zeros)
+    ∷ states (meaningOf "table\t2\t1\t-\nend\n") (accepted 2 1 (Block 1) zeros)
     -- "In line 1 the order is 1, 2, 3, 4."
     ∷ states (meaningOf "table\t9\t9\tx\nend\n") (refusal 1 1)
     ∷ states (meaningOf "table\t9\t9\t9\nend\n") (refusal 2 1)
@@ -213,6 +259,34 @@ markedDesigns =
     ∷ states (meaningOf "table\t2\t1\t1\nend\n\n") (refusal 6 3)
     ∷ states (meaningOf "table\t2\t1\t1\nend") (refusal 1 2)
     ∷ states (meaningOf "table\t2\t1\t1\n") (refusal 6 2)
+    -- `K`: all zero, "the letters that come first"
+    ∷ states (kindFor 2 zeroTable) (bytes "SS" ++ 0 ∷ 0 ∷ [])
+    -- x2 is best taken the Shannon way, as dear as k = 1
+    ∷ states (kindFor 2 splitTable) (bytes "SP" ++ 2 ∷ 3 ∷ [])
+    ∷ states (costOf 2 1 splitTable) (2 ∷ 3 ∷ [])
+    -- x2, which does not matter, the positive Davio way; of the letters of x1, of which S and P cost alike, S comes first
+    ∷ states (kindFor 2 plainTable) (bytes "PS" ++ 1 ∷ 1 ∷ [])
+    -- both inputs of OR the negative Davio way
+    ∷ states (kindFor 2 orTable) (bytes "NN" ++ 2 ∷ 2 ∷ [])
+    -- two addresses cost 2 and 6 with `K`, and at least 4 products with each k
+    ∷ states (kindFor 3 endsTable) (bytes "SSS" ++ 2 ∷ 6 ∷ [])
+    ∷ states (costOf 3 0 endsTable) (5 ∷ 10 ∷ [])
+    ∷ states (costOf 3 1 endsTable) (4 ∷ 9 ∷ [])
+    ∷ states (costOf 3 2 endsTable) (4 ∷ 9 ∷ [])
+    ∷ states (costOf 3 3 endsTable) (5 ∷ 10 ∷ [])
+    -- exactly one of three inputs costs 3 and 7 with `K`, and 3 and 6 with k = 2
+    ∷ states (kindFor 3 oneOfThreeTable) (bytes "SNN" ++ 3 ∷ 7 ∷ [])
+    ∷ states (costOf 3 2 oneOfThreeTable) (3 ∷ 6 ∷ [])
+    -- a text with `K`, from its text to its listing, byte for byte, and what the listing says
+    ∷ states (meaningOf splitText) (accepted 2 2 Kronecker (splitTable ++ replicate 252 0))
+    ∷ states (printedOf splitText) (bytes splitListing)
+    ∷ states (countsOf splitListing) (2 ∷ 3 ∷ [])
+    ∷ states (tableOf 2 splitListing) splitTable
+    -- with `K` the order of line 1 is the same, and 4 cannot apply
+    ∷ states (meaningOf "table\t9\t9\tK\nend\n") (refusal 2 1)
+    ∷ states (meaningOf "table\t1\t9\tK\nend\n") (refusal 3 1)
+    ∷ states (meaningOf "table\t1\t1\tK\nend\n") (accepted 1 1 Kronecker zeros)
+    ∷ states (meaningOf "table\t1\t1\tk\nend\n") (refusal 1 1)
     -- the printed example's record, its listing, and what the listing says
     ∷ states (listingOf 2 2 1 (recorded (1 ∷ 0 ∷ 0 ∷ 3 ∷ []) (0 ∷ 1 ∷ []) 1 2 2 2)) (bytes printedListing)
     ∷ states (firstLineOf printedListing) (2 ∷ 2 ∷ 1 ∷ 1 ∷ 2 ∷ 2 ∷ 2 ∷ [])

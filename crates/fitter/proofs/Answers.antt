@@ -1,9 +1,10 @@
 -- When each answer is given, in document 02's words. For a listing that was read: `Same` where a member prints it and gives the table
 -- (`same-to`, `same-from`), `NotOfClass` where no member prints its cubes (`not-to`, `not-from`), and else the lowest point that differs
--- (`differs-to`, `differs-from`). For every pair of byte strings: `check-words`.
+-- (`differs-to`, `differs-from`). Beside a `K` table:
+-- `kronecker-words`. For every pair of byte strings: `check-words`.
 use mathlib.Core.Bool.{Bool, true, false, cond}
 use mathlib.Core.List.{List}
-use mathlib.Core.Logic.{_↔_}
+use mathlib.Core.Logic.{_⊎_, inl, inr, _↔_}
 use mathlib.Core.Path.{_≡_, refl, sym, ap, _∙_}
 use Prim.Native.Nat.{ℕ, _^_, _≤_}
 use native.Mathlib.Omega.{arith}
@@ -11,6 +12,8 @@ use Rattle.numbers.specs.Bytes.{at}
 use Rattle.numbers.specs.Refusals.{Sized}
 use Rattle.numbers.proofs.Shifts.{points-le}
 use Rattle.algebra.specs.Terms.{value}
+use Rattle.expansions.specs.declared.kinds.Kind.{Kind}
+use Rattle.expansions.specs.declared.kinds.Kind.the-variants.{Block, Kronecker}
 use Rattle.expansions.specs.Least.{Best, nothing, best}
 use Rattle.expansions.specs.Members.{polarity}
 use Rattle.listings.specs.Listing.{listingWith, printedCubes}
@@ -18,17 +21,22 @@ use Rattle.listings.specs.Meaning.{listingValue, listingCubes, statedMixed, sta
 use Rattle.membership.specs.Class.{ofClass, shownPolarity, Printable}
 use Rattle.membership.proofs.Class.{class-exactly, class-member, class-lines, class-value}
 use Rattle.table_texts.specs.declared.sizes.Sizes.{Sizes}
+use Rattle.table_texts.specs.declared.sizes.Design.{Design}
+use Rattle.table_texts.specs.Design.{blockDesign}
+use Rattle.table_texts.proofs.Design.{block-sized}
 use Rattle.table_texts.specs.Read as tables
 use Rattle.table_texts.proofs.read.Accepted.{reading-accepted}
 use Rattle.listing_texts.specs.declared.form.Form.{Form}
+use Rattle.listing_texts.specs.Form.{KronListing}
 use Rattle.listing_texts.specs.Listings.{termListing, Passes}
 use Rattle.listing_texts.specs.Rows.{coefficientIn, complementedIn}
-use Rattle.listing_texts.specs.Read.{ListingReading, shown, refused, listingReading}
+use Rattle.listing_texts.specs.Read.{ListingReading, shown, refused, listingReading, besideKronecker}
 use Rattle.listing_texts.proofs.Exactness.{ListingIs, listing-read, read-passes, passes-exactly}
+use Rattle.listing_texts.proofs.BesideKronecker.{form-exactly, other-exactly, beside-either, kron-beside, kron-read}
 use Rattle.fitter.specs.declared.check.Checked.{Checked}
 use Rattle.fitter.specs.declared.check.Checked.the-variants.{Same, Differs, NotOfClass, Refused}
 use Rattle.fitter.specs.Differences.{firstDifference}
-use Rattle.fitter.specs.Check.{compared, judged, checked, PrintsCubes, PrintsTable, LowestDifference, Answers, Check}
+use Rattle.fitter.specs.Check.{compared, judged, judgedKind, judgedDesign, checked, PrintsCubes, PrintsTable, LowestDifference, Answers, KroneckerAnswers, Check}
 use Rattle.fitter.proofs.Bytes.{mixed-stated, fixed-stated, cubes-listed, value-listed, rows-shown}
 use Rattle.fitter.proofs.Differences.{difference-none, none-differ, difference-at, lowest-differs}
 
@@ -239,12 +247,45 @@ module _ (z : Sizes) (table s : List ℕ) (sized : Sized (z .n) (z .m) (z .k)) w
         );
       }
 
+-- ---- beside a `K` table
+
+number-of : {a b : ℕ} → Refused a 1 ≡ Refused b 1 → a ≡ b
+number-of e = cc
+
+pub kronecker-words : (s : List ℕ) (r : Checked) → r ≡ Refused (besideKronecker s) 1 → KroneckerAnswers s r
+kronecker-words s r e =
+    record {
+      form = ((λ h. form-exactly s .0 (number-of (sym e ∙ h))), (λ g. told 12 (form-exactly s .1 g)));
+      other = ((λ h. other-exactly s .0 (number-of (sym e ∙ h))), (λ none. told 11 (other-exactly s .1 none)));
+      either = either (beside-either s);
+    }
+  where
+    told : (number : ℕ) → besideKronecker s ≡ number → r ≡ Refused number 1
+    told number h = e ∙ ap (λ (x : ℕ). Refused x 1) h
+
+    either : (besideKronecker s ≡ 11) ⊎ (besideKronecker s ≡ 12) → (r ≡ Refused 11 1) ⊎ (r ≡ Refused 12 1)
+    either (inl h) = inl (told 11 h)
+    either (inr h) = inr (told 12 h)
+
 -- ---- every pair of byte strings
 
 pub check-words : (text s : List ℕ) (r : Checked) → r ≡ checked (tables.reading text) s → Check text s r
-unfolding checked
+unfolding checked judgedDesign
 check-words text s r e =
     record {
       answer = e;
-      words = λ z table g. answers-words z table s (reading-accepted text z table g .sized) r (e ∙ ap (λ (x : tables.Reading). checked x s) g);
+      words = λ z table g.
+          let sized = block-sized (blockDesign z) (z .k) refl (reading-accepted text (blockDesign z) table g .sized) in
+          answers-words z table s sized r (e ∙ ap (λ (x : tables.Reading). checked x s) g);
+      kronecker = λ d table g k.
+          kronecker-words s r (e ∙ ap (λ (x : tables.Reading). checked x s) g ∙ ap (λ (x : Kind). judgedKind (d .n) (d .m) x table s) k);
     }
+
+-- "a `kron` listing is 11, line 1", beside every accepted table text
+pub kron-listing-refused : (text s : List ℕ) (d : Design) (table : List ℕ) → tables.reading text ≡ tables.given d table → KronListing s
+    → checked (tables.reading text) s ≡ Refused 11 1
+unfolding checked judgedDesign judged
+kron-listing-refused text s d table e k = ap (λ (x : tables.Reading). checked x s) e ∙ go (d .kind) where
+  go : (x : Kind) → judgedKind (d .n) (d .m) x table s ≡ Refused 11 1
+  go (Block j) = ap (judged (record { n = d .n; m = d .m; k = j }) table) (kron-read (record { n = d .n; m = d .m; k = j }) s k)
+  go Kronecker = ap (λ (x : ℕ). Refused x 1) (kron-beside s k)

@@ -1,5 +1,5 @@
--- The listing of any member that gives the table is the same as it, "cheap or not" (`member-same`); so the text call's listing beside its own text
--- is `Same` (`own-same`).
+-- The listing of any member that gives the table is the same as it, "cheap or not" (`member-same`); so the text call's listing beside its own text,
+-- where k is a number, is `Same` (`own-same`).
 use mathlib.Core.List.{List}
 use mathlib.Core.Path.{_≡_, refl, ap, _∙_}
 use Prim.Native.Nat.{ℕ, _^_, _≤_}
@@ -14,6 +14,8 @@ use Rattle.search.proofs.expansion.Answer.{answerExpansion-is}
 use Rattle.listings.specs.Listing.{listing}
 use Rattle.listings.specs.Meaning.{statedMixed, statedFixed}
 use Rattle.table_texts.specs.declared.sizes.Sizes.{Sizes}
+use Rattle.table_texts.specs.Design.{blockDesign}
+use Rattle.table_texts.proofs.Design.{block-sized}
 use Rattle.table_texts.specs.Read.{Reading, given, reading}
 use Rattle.table_texts.proofs.read.Accepted.{reading-accepted}
 use Rattle.listing_texts.specs.Read.{listingReading}
@@ -21,7 +23,7 @@ use Rattle.listing_texts.specs.ReadBack.{MemberRecord}
 use Rattle.listing_texts.proofs.ReadBack.{listing-terms, answer-record}
 use Rattle.text.specs.Compile.{answerListing}
 use Rattle.fitter.specs.declared.check.Checked.the-variants.{Same}
-use Rattle.fitter.specs.Check.{judged, checked}
+use Rattle.fitter.specs.Check.{judged, judgedDesign, checked}
 use Rattle.fitter.proofs.Bytes.{mixed-stated, fixed-stated}
 use Rattle.fitter.proofs.Answers.{answers-words}
 
@@ -59,11 +61,13 @@ module _ (z : Sizes) (table : List ℕ) (e : Expansion) (sized : Sized (z .n) (z
         },
       )
 
-pub own-same : (text : List ℕ) (z : Sizes) (table : List ℕ) → reading text ≡ given z table → checked (reading text) (answerListing z table) ≡ Same
-unfolding checked answerListing
+pub own-same : (text : List ℕ) (z : Sizes) (table : List ℕ) → reading text ≡ given (blockDesign z) table
+    → checked (reading text) (answerListing (blockDesign z) table) ≡ Same
+unfolding checked judgedDesign answerListing
 own-same text z table e =
-    let a = reading-accepted text z table e in
+    let a = reading-accepted text (blockDesign z) table e in
+    let sized = block-sized (blockDesign z) (z .k) refl (a .sized) in
     let minimal = answerExpansion-is (z .n) (z .k) (at table) (a .sized .inputs .1) (a .sized .mixed .1) in
-    ap (λ (x : Reading). checked x (answerListing z table)) e
-    ∙ member-same z table (answerExpansion (z .n) (z .k) (at table)) (a .sized) (answer-record z (at table) (a .sized) (λ p h. a .table .small p))
+    ap (λ (x : Reading). checked x (answerListing (blockDesign z) table)) e
+    ∙ member-same z table (answerExpansion (z .n) (z .k) (at table)) sized (answer-record z (at table) sized (λ p h. a .table .small p))
     (minimal .answer .gives)

@@ -10,9 +10,14 @@ use Rattle.numbers.proofs.Tables.{drop-zeros}
 use Rattle.listings.specs.Parts.{bytes}
 use Rattle.listings.specs.Listing.{line, tabbed, decimal}
 use Rattle.listings.proofs.Lengths.{digitsOf-le, length-numbers}
-use Rattle.table_texts.specs.Read.{reading}
+use Rattle.expansions.specs.declared.kinds.Kind.the-variants.{Kronecker}
+use Rattle.table_texts.specs.declared.sizes.Design.{Design}
+use Rattle.table_texts.specs.Design.{blockDesign}
+use Rattle.table_texts.specs.Read.{given, reading}
+use Rattle.table_texts.proofs.Design.{block-sized}
 use Rattle.table_texts.proofs.Length.{accepted-text-first}
 use Rattle.table_texts.proofs.read.Accepted.{reading-accepted}
+use Rattle.listing_texts.proofs.BesideKronecker.{beside-first}
 use Rattle.listing_texts.proofs.Length.{passes-first}
 use Rattle.text.specs.Print.{judged}
 use Rattle.text.proofs.print.Refusals.{refused-line-le}
@@ -20,7 +25,7 @@ use Rattle.writing.specs.Put.{Put}
 use Rattle.writing.proofs.Puts.{put-front}
 use Rattle.fitter.specs.declared.check.Checked.{Checked}
 use Rattle.fitter.specs.declared.check.Checked.the-variants.{Same, Differs, NotOfClass, Refused}
-use Rattle.fitter.specs.Check.{checked, Check}
+use Rattle.fitter.specs.Check.{judgedDesign, checked, Check}
 use Rattle.fitter.specs.Print.{answerLine, printed, Print}
 use Rattle.fitter.proofs.Answers.{check-words}
 
@@ -32,6 +37,12 @@ answer-within (Differs p) =
     omega (arith, length-append (tabbed (map decimal xs)) (10 ∷ []), length-numbers xs, digitsOf-le xs)
 answer-within NotOfClass = lit≤ tt
 answer-within (Refused number l) = refused-line-le number l
+
+-- beside a `K` table the refusal of the first 8,192 bytes is the refusal of the listing
+first-refused : (text listing : List ℕ) (d : Design) (table : List ℕ) → reading text ≡ given d table → d .kind ≡ Kronecker
+    → checked (reading (judged text)) (judged listing) ≡ checked (reading text) listing
+unfolding checked judgedDesign
+first-refused text listing d table e k = rw (accepted-text-first text d table e, e, k, beside-first listing)
 
 pub print-holds : (text listing texts listings held : List ℕ) (r : Checked) (count : ℕ) → texts ≡ judged text → listings ≡ judged listing
     → Check texts listings r → Put (replicate 18 0) 0 (answerLine r) held count → Print text listing held count
@@ -51,7 +62,8 @@ print-holds text listing texts listings held r count et el c put =
       within = omega (arith, ec, ap length filled, length-append (printed text listing) (replicate (18 - length (printed text listing)) 0));
       shown = shown;
       whole = λ z table e p.
-          shown
-          ∙ rw (accepted-text-first text z table e, passes-first z listing (reading-accepted text z table e .sized) p);
+          let sized = block-sized (blockDesign z) (z .k) refl (reading-accepted text (blockDesign z) table e .sized) in
+          shown ∙ rw (accepted-text-first text (blockDesign z) table e, passes-first z listing sized p);
+      whole-kronecker = λ d table e k. shown ∙ ap answerLine (first-refused text listing d table e k);
       meaning = check-words (judged text) (judged listing) (checked (reading (judged text)) (judged listing)) refl;
     }

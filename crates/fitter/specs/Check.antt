@@ -1,23 +1,28 @@
 -- The fitter's check: the answer for every pair of byte strings; and when each answer is given, in document 02's words, over the listing's
 -- bytes. Document 02, W-201: "Read a listing beside its table text and say: not of the class; differs, with the lowest point that differs; or
--- same."
+-- same." W-202: "In the fitter's check a `kron` listing is 11, line 1, and a `K` table beside a `form` listing is 12."
 use mathlib.Core.Bool.{cond}
 use mathlib.Core.List.{List}
-use mathlib.Core.Logic.{_↔_}
+use mathlib.Core.Logic.{_⊎_, _↔_}
 use mathlib.Core.Path.{_≡_}
 use Prim.Native.Nat.{ℕ, _^_, _<_}
 use Rattle.numbers.specs.Bytes.{at}
 use Rattle.algebra.specs.Terms.{value}
+use Rattle.expansions.specs.declared.kinds.Kind.{Kind}
+use Rattle.expansions.specs.declared.kinds.Kind.the-variants.{Block, Kronecker}
 use Rattle.expansions.specs.Least.{Best, nothing, best}
 use Rattle.expansions.specs.Members.{polarity, Member, Gives}
 use Rattle.listings.specs.Listing.{printedCubes}
 use Rattle.listings.specs.Meaning.{listingValue, listingCubes, statedMixed, statedFixed}
 use Rattle.membership.specs.Class.{ofClass}
 use Rattle.table_texts.specs.declared.sizes.Sizes.{Sizes}
+use Rattle.table_texts.specs.declared.sizes.Design.{Design}
+use Rattle.table_texts.specs.Design.{blockDesign}
 use Rattle.table_texts.specs.Read as tables
+use Rattle.listing_texts.specs.Form.{FormListing}
 use Rattle.listing_texts.specs.Listings.{termListing, Passes}
 use Rattle.listing_texts.specs.Rows.{coefficientIn, complementedIn}
-use Rattle.listing_texts.specs.Read.{ListingReading, shown, refused, listingReading}
+use Rattle.listing_texts.specs.Read.{ListingReading, shown, refused, listingReading, besideKronecker}
 use Rattle.fitter.specs.Differences.{firstDifference}
 use Rattle.fitter.specs.declared.check.Checked.{Checked}
 use Rattle.fitter.specs.declared.check.Checked.the-variants.{Same, Differs, NotOfClass, Refused}
@@ -37,9 +42,18 @@ judged z table (shown f rows) =
     NotOfClass
 judged z table (refused number line) = Refused number line
 
+-- a listing beside a table of n inputs and m outputs, by the kind of k: "a `K` table beside a `form` listing is 12"
+abbrev pub judgedKind : ℕ → ℕ → Kind → List ℕ → List ℕ → Checked
+judgedKind n m (Block k) table s = judged (record { n = n; m = m; k = k }) table (listingReading (record { n = n; m = m; k = k }) s)
+judgedKind n m Kronecker table s = Refused (besideKronecker s) 1
+
+-- a listing beside the table of an accepted text
+unfoldable pub judgedDesign : Design → List ℕ → List ℕ → Checked
+judgedDesign d table s = judgedKind (d .n) (d .m) (d .kind) table s
+
 -- "The table text is judged first."
 unfoldable pub checked : tables.Reading → List ℕ → Checked
-checked (tables.given z table) s = judged z table (listingReading z s)
+checked (tables.given d table) s = judgedDesign d table s
 checked (tables.refused number line) s = Refused number line
 
 -- ---- the answer in document 02's words
@@ -64,7 +78,7 @@ pub record LowestDifference (n : ℕ) (table s : List ℕ) (p : ℕ) : Type 0 wh
   pub differs : listingValue s p ≡ at table p → ⊥
   pub before : (q : ℕ) → q < p → listingValue s q ≡ at table q
 
--- when each answer is given beside an accepted table text
+-- when each answer is given beside an accepted table text whose k is a number
 pub record Answers (z : Sizes) (table s : List ℕ) (r : Checked) : Type 0 where
   -- "'Not of the class' is said exactly when no member with the listing's M and i prints those cubes.", of the listings that are not refused
   pub not-of-class : (r ≡ NotOfClass) ↔ (Passes z s × ((φ c : ℕ → ℕ) → PrintsCubes z s φ c → ⊥))
@@ -75,7 +89,14 @@ pub record Answers (z : Sizes) (table s : List ℕ) (r : Checked) : Type 0 where
   -- a listing is refused exactly when it is not the listing of some terms, with the table's n, m and k and with its own counts
   pub refusal : ((number line : ℕ) → r ≡ Refused number line → ⊥) ↔ Passes z s
 
+-- the answer beside an accepted `K` table: "a `K` table beside a `form` listing is 12", and any other listing 11, each with line 1
+pub record KroneckerAnswers (s : List ℕ) (r : Checked) : Type 0 where
+  pub form : (r ≡ Refused 12 1) ↔ FormListing s
+  pub other : (r ≡ Refused 11 1) ↔ (FormListing s → ⊥)
+  pub either : (r ≡ Refused 11 1) ⊎ (r ≡ Refused 12 1)
+
 -- the check, for every pair of byte strings
 pub record Check (text s : List ℕ) (r : Checked) : Type 0 where
   pub answer : r ≡ checked (tables.reading text) s
-  pub words : (z : Sizes) (table : List ℕ) → tables.reading text ≡ tables.given z table → Answers z table s r
+  pub words : (z : Sizes) (table : List ℕ) → tables.reading text ≡ tables.given (blockDesign z) table → Answers z table s r
+  pub kronecker : (d : Design) (table : List ℕ) → tables.reading text ≡ tables.given d table → d .kind ≡ Kronecker → KroneckerAnswers s r

@@ -6,7 +6,10 @@ use Prim.Native.Nat.{ℕ, _-_, _≤_}
 use lib.ListN.{length, take, replicate}
 use Rattle.listings.specs.Parts.{bytes}
 use Rattle.listings.specs.Listing.{line, decimal}
+use Rattle.expansions.specs.declared.kinds.Kind.the-variants.{Kronecker}
 use Rattle.table_texts.specs.declared.sizes.Sizes.{Sizes}
+use Rattle.table_texts.specs.declared.sizes.Design.{Design}
+use Rattle.table_texts.specs.Design.{blockDesign}
 use Rattle.table_texts.specs.Read.{given, reading}
 use Rattle.listing_texts.specs.Listings.{Passes}
 use Rattle.text.specs.Print.{judged, refusedLine}
@@ -32,5 +35,9 @@ pub record Print (text listing held : List ℕ) (count : ℕ) : Type 0 where
   pub within : count ≤ length held
   pub shown : take count held ≡ printed text listing
   -- the first 8,192 bytes of a text that is accepted and of a listing that passes are the whole of them
-  pub whole : (z : Sizes) (table : List ℕ) → reading text ≡ given z table → Passes z listing → take count held ≡ answerLine (checked (reading text) listing)
+  pub whole : (z : Sizes) (table : List ℕ) → reading text ≡ given (blockDesign z) table → Passes z listing
+      → take count held ≡ answerLine (checked (reading text) listing)
+  -- and beside a `K` table the first 8,192 bytes of any listing give its refusal
+  pub whole-kronecker : (d : Design) (table : List ℕ) → reading text ≡ given d table → d .kind ≡ Kronecker
+      → take count held ≡ answerLine (checked (reading text) listing)
   pub meaning : Check (judged text) (judged listing) (checked (reading (judged text)) (judged listing))

@@ -4,17 +4,20 @@ use crate::class::all_show_back;
 use crate::class::legal_pair;
 use crate::values::Difference;
 use crate::values::first_difference;
+use expansions::kinds::Kind;
+use listing_texts::beside::judge_beside_kronecker;
 use listing_texts::read::ListingAnswer;
 use listing_texts::read::ListingRead;
 use listing_texts::read::read_listing;
 use search::expansion::Expansion;
 use table_texts::read::ReadAnswer;
 use table_texts::read::read_table;
+use table_texts::sizes::Design;
 use table_texts::sizes::Sizes;
 ghost use mathlib.Core.Path.{_≡_};
 ghost use Prim.Native.Nat.{_≤_};
 ghost use Rattle.listing_texts.specs.Read.{listingReading};
-ghost use Rattle.fitter.specs.Check.{judged, Check};
+ghost use Rattle.fitter.specs.Check.{judged, judgedDesign, Check};
 ghost use Rattle.fitter.specs.inner.Judging.{judgedRecord};
 
 // The check's answer. A refusal has document 01's or 02's number, and the line in the table text or, for 11 and 12, in the listing.
@@ -54,7 +57,7 @@ fn judge_read(sizes: Sizes, table: &[u8; Expansion::PLACES], read: ListingRead) 
     }
 }
 
-// Judges a listing beside a table that was read.
+// Judges a listing beside a table of the block class that was read.
 fn check_table(sizes: Sizes, table: &[u8; Expansion::PLACES], listing: &[u8]) -> Checked
     requires { ⌜ sizes .n ≤ 8 ⌝ }
     ensures { λ r. ⌜ r ≡ judged sizes (now (table .entry)) (listingReading sizes (now (listing .entry))) ⌝ }
@@ -67,6 +70,28 @@ fn check_table(sizes: Sizes, table: &[u8; Expansion::PLACES], listing: &[u8]) ->
     }
 }
 
+// Judges a listing beside a table that was read, by the kind of k. Beside a `K` table every listing is refused.
+fn check_design(design: Design, table: &[u8; Expansion::PLACES], listing: &[u8]) -> Checked
+    requires { ⌜ design .n ≤ 8 ⌝ }
+    ensures { λ r. ⌜ r ≡ judgedDesign design (now (table .entry)) (now (listing .entry)) ⌝ }
+{
+    let kind = design.kind;
+    match kind {
+        Kind::Block(k) => {
+            let sizes = Sizes {
+                n: design.n,
+                m: design.m,
+                k,
+            };
+            check_table(sizes, table, listing)
+        }
+        Kind::Kronecker => Checked::Refused {
+            number: judge_beside_kronecker(listing),
+            line: 1,
+        },
+    }
+}
+
 // Takes a table text and a listing, and says whether the listing is of the class, and where it first differs from the table. The text is
 // judged first, and refused as the reading call refuses it; then the listing, whose refusals are 11 with its line and 12 with line 1.
 pub fn check(text: &[u8], listing: &[u8]) -> Checked
@@ -74,7 +99,7 @@ pub fn check(text: &[u8], listing: &[u8]) -> Checked
 {
     let mut table = [0u8; Sizes::TABLE];
     match read_table(text, &mut table) {
-        ReadAnswer::Given(sizes) => check_table(sizes, &table, listing),
+        ReadAnswer::Given(design) => check_design(design, &table, listing),
         ReadAnswer::Refused { number, line } => Checked::Refused { number, line },
     }
 }

@@ -32,11 +32,11 @@ use Rattle.table_texts.specs.declared.sizes.Sizes.{Sizes}
 use Rattle.listing_texts.specs.declared.form.Form.{Form}
 use Rattle.listing_texts.specs.declared.form.FirstLine.{FirstLine}
 use Rattle.listing_texts.specs.declared.form.FirstLine.the-variants.{States, Wrong}
-use Rattle.listing_texts.specs.Form.{firstLine}
+use Rattle.listing_texts.specs.Form.{firstLine, formNumbers, Digits}
 use Rattle.listing_texts.specs.Rows.{coefficientIn, complementedIn}
 use Rattle.listing_texts.specs.Read.{ListingReading, shown, refused, alike, countsRight, linesJudged, firstJudged, grammar, allLines, listingReading}
 use Rattle.listing_texts.specs.Listings.{termListing, Passes}
-use Rattle.listing_texts.proofs.FormRead.{formNumbers, Digits, form-said, form-read}
+use Rattle.listing_texts.proofs.FormRead.{form-said, form-read}
 
 -- ---- a listing by its first line and what follows it
 

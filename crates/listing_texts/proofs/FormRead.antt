@@ -1,9 +1,9 @@
 -- The first line of a listing: the line that is written for seven numbers says them (`form-said`), and a line that says seven numbers is the one
 -- that is written for them (`form-read`).
 use mathlib.Core.Bool.{Bool, true, false, cond}
-use mathlib.Core.List.{List, [], _∷_, _++_, map}
+use mathlib.Core.List.{List, _++_, map}
 use mathlib.Core.Path.{_≡_, refl, ap, _∙_}
-use Prim.Native.Nat.{ℕ, _<_}
+use Prim.Native.Nat.{ℕ}
 use native.Mathlib.Omega.{arith}
 use lib.Dec.{lit≤}
 use Rattle.listings.specs.Parts.{parts, bytes, same, field, fields}
@@ -18,21 +18,7 @@ use Rattle.lines.proofs.FieldsRead.{number-read}
 use Rattle.lines.proofs.Headed.{list-each, headed-read}
 use Rattle.listing_texts.specs.declared.form.Form.{Form}
 use Rattle.listing_texts.specs.declared.form.FirstLine.the-variants.{States, Wrong}
-use Rattle.listing_texts.specs.Form.{formOf, firstLine}
-
--- the numbers of a first line, in their order
-abbrev pub formNumbers : Form → List ℕ
-formNumbers f = f .sizes .n ∷ f .sizes .m ∷ f .sizes .k ∷ f .mixed ∷ f .fixed ∷ f .products ∷ f .literals ∷ []
-
--- each has at most four digits, and k has one
-pub record Digits (f : Form) : Type 0 where
-  pub n : f .sizes .n < 10000
-  pub m : f .sizes .m < 10000
-  pub k : f .sizes .k < 10
-  pub mixed : f .mixed < 10000
-  pub fixed : f .fixed < 10000
-  pub products : f .products < 10000
-  pub literals : f .literals < 10000
+use Rattle.listing_texts.specs.Form.{formOf, firstLine, formNumbers, Digits}
 
 -- ---- the line that is written
 

@@ -1,4 +1,5 @@
 pub mod FormRead
 pub mod Exactness
+pub mod BesideKronecker
 pub mod Length
 pub mod ReadBack

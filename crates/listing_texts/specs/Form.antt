@@ -1,10 +1,13 @@
--- What the first line of a listing says, by its fields. Document 01, "Text in, listing out".
+-- What the first line of a listing says, by its fields, and which listings begin with such a line. Document 01, "Text in, listing out".
 use mathlib.Core.Bool.{cond}
-use mathlib.Core.List.{List}
-use Prim.Native.Nat.{ℕ}
-use Rattle.listings.specs.Parts.{bytes, field}
+use mathlib.Core.List.{List, [], _∷_, _++_, map}
+use mathlib.Core.Path.{_≡_}
+use Prim.Native.Nat.{ℕ, _<_}
+use Rattle.listings.specs.Parts.{parts, bytes, field}
+use Rattle.listings.specs.Listing.{line, decimal}
 use Rattle.lines.specs.declared.values.Number.{Number}
 use Rattle.lines.specs.Fields.{andThen, number, headed}
+use Rattle.listing_texts.specs.declared.form.Form.{Form}
 use Rattle.listing_texts.specs.declared.form.FirstLine.{FirstLine}
 use Rattle.listing_texts.specs.declared.form.FirstLine.the-variants.{States, Wrong}
 
@@ -21,3 +24,30 @@ firstLine l =
     (formOf (number 4 (field 1 l)) (number 4 (field 2 l)) (number 1 (field 3 l)) (number 4 (field 4 l)) (number 4 (field 5 l)) (number 4 (field 6 l))
     (number 4 (field 7 l)))
     Wrong
+
+-- ---- `form` listings
+
+-- the numbers of a first line, in their order
+abbrev pub formNumbers : Form → List ℕ
+formNumbers f = f .sizes .n ∷ f .sizes .m ∷ f .sizes .k ∷ f .mixed ∷ f .fixed ∷ f .products ∷ f .literals ∷ []
+
+-- "its numbers have one to four digits", and k is "a digit"
+pub record Digits (f : Form) : Type 0 where
+  pub n : f .sizes .n < 10000
+  pub m : f .sizes .m < 10000
+  pub k : f .sizes .k < 10
+  pub mixed : f .mixed < 10000
+  pub fixed : f .fixed < 10000
+  pub products : f .products < 10000
+  pub literals : f .literals < 10000
+
+-- a `form` listing: its first line is "`form`, n, m, k (a digit), M, i, products, literals", which byte 10 ends, whatever follows it
+pub record FormListing (s : List ℕ) : Type 0 where
+  pub form : Form
+  pub digits : Digits form
+  pub rest : List ℕ
+  pub characters : s ≡ line (bytes "form") (map decimal (formNumbers form)) ++ rest
+
+-- a `kron` listing: the first field of its first line is the word `kron`
+abbrev pub KronListing : List ℕ → Type 0
+KronListing s = field 0 (parts 10 s .first) ≡ bytes "kron"

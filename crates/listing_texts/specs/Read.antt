@@ -1,4 +1,5 @@
--- What a listing beside a table means: the numbers of its first line and its rows, or the refusal that it meets. Document 02, W-201.
+-- What a listing beside a table means: the numbers of its first line and its rows, or the refusal that it meets. Document 02, W-201
+-- and W-202.
 use mathlib.Core.Bool.{Bool, cond, _&&_}
 use mathlib.Core.List.{List, [], _∷_}
 use Prim.Native.Nat.{ℕ}
@@ -55,3 +56,20 @@ allLines z l (l′ ∷ ls) =
 -- "Read a listing beside its table text": what the bytes of a listing mean beside a table with the sizes z
 unfoldable pub listingReading : Sizes → List ℕ → ListingReading
 listingReading z s = allLines z (parts 10 s .first) (parts 10 s .others)
+
+-- ---- beside a `K` table
+
+-- "a `K` table beside a `form` listing is 12": the number by the first line, which is 11 where it is no `form` line
+abbrev pub besideLine : FirstLine → ℕ
+besideLine (States f) = 12
+besideLine Wrong = 11
+
+-- the number by the first line and the parts after it; a first line that no byte 10 ends is 11
+unfoldable pub besideLines : List ℕ → List (List ℕ) → ℕ
+besideLines l [] = 11
+besideLines l (l′ ∷ ls) = besideLine (firstLine l)
+
+-- "In the fitter's check a `kron` listing is 11, line 1, and a `K` table beside a `form` listing is 12.": the number of the refusal, with line 1,
+-- that every listing meets beside a `K` table
+unfoldable pub besideKronecker : List ℕ → ℕ
+besideKronecker s = besideLines (parts 10 s .first) (parts 10 s .others)

@@ -8,22 +8,37 @@ use native.Mathlib.Omega.{arith}
 use lib.ListN.{length, take, drop}
 use Rattle.listings.specs.Parts.{parts}
 use Rattle.listings.specs.inner.Stops.{stop}
-use Rattle.listings.proofs.Parts.{first-take}
+use Rattle.listings.proofs.Parts.{first-take, others-none, others-more}
 use Rattle.table_texts.specs.declared.sizes.Sizes.{Sizes}
-use Rattle.listing_texts.specs.Read.{refused, listingReading}
+use Rattle.listing_texts.specs.Form.{firstLine}
+use Rattle.listing_texts.specs.Read.{refused, listingReading, besideLine, besideLines, besideKronecker}
 use Rattle.listing_texts.proofs.Exactness.{opened, reading-split, reading-unfinished}
 
-module _ (z : Sizes) (s : List ℕ) (to : ℕ) (e : to ≡ stop 10 s 0) where
+module _ (s : List ℕ) (to : ℕ) (e : to ≡ stop 10 s 0) where
   first-length : to ≡ length (parts 10 s .first)
   first-length = e ∙ zero-add _
 
   first-part : take to s ≡ parts 10 s .first
   first-part = rw first-length (first-take 10 s)
 
-  pub listing-unfinished : length s ≤ to → listingReading z s ≡ refused 11 1
-  listing-unfinished h = reading-unfinished z s (omega (arith, first-length))
+  -- ---- beside a table with the sizes z
 
-  pub listing-judged : to < length s → listingReading z s ≡ opened z (take to s) (drop (to + 1) s)
-  listing-judged h =
+  pub listing-unfinished : (z : Sizes) → length s ≤ to → listingReading z s ≡ refused 11 1
+  listing-unfinished z h = reading-unfinished z s (omega (arith, first-length))
+
+  pub listing-judged : (z : Sizes) → to < length s → listingReading z s ≡ opened z (take to s) (drop (to + 1) s)
+  listing-judged z h =
       reading-split z s (omega (arith, first-length))
       ∙ ap₂ (opened z) (sym first-part) (ap (λ (i : ℕ). drop i s) (sym (add-one to ∙ ap suc first-length)))
+
+  -- ---- beside a `K` table
+
+  pub beside-unfinished : length s ≤ to → besideKronecker s ≡ 11
+  unfolding besideKronecker besideLines
+  beside-unfinished h = ap (besideLines (parts 10 s .first)) (others-none 10 s (omega (arith, first-length)))
+
+  pub beside-judged : to < length s → besideKronecker s ≡ besideLine (firstLine (take to s))
+  unfolding besideKronecker besideLines
+  beside-judged h =
+      ap (besideLines (parts 10 s .first)) (others-more 10 s (omega (arith, first-length)))
+      ∙ ap (λ (l : List ℕ). besideLine (firstLine l)) (sym first-part)

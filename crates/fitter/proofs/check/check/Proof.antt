@@ -17,13 +17,13 @@ slice-aggregate-read-table c = search needs
 read-table-requires : tie.Need-read-table-requires
 read-table-requires c κs = search needs
 
-enum-known-sizes : tie.Need-enum-known-sizes
-enum-known-sizes c = search needs
+enum-known-design : tie.Need-enum-known-design
+enum-known-design c = search needs
 
-check-table-requires : tie.Need-check-table-requires
-check-table-requires c κs =
+check-design-requires : tie.Need-check-design-requires
+check-design-requires c κs =
     let call = c .before .before .before .before .before in
-    reading-accepted _ _ _ (reads-given _ _ _ _ (c .before .before .sizes .given .1) (means call)) .sized .inputs .1
+    reading-accepted _ _ _ (reads-given _ _ _ _ (c .before .before .design .given .1) (means call)) .sized .inputs .1
 
 enum-known-number : tie.Need-enum-known-number
 enum-known-number c = search needs
@@ -32,8 +32,8 @@ returns : tie.Need-returns
 unfolding checked
 returns c =
     let call = c .before .before .before .before .before .before in
-    let e = reads-given _ _ _ _ (c .before .before .before .sizes .given .1) (means call) in
-    check-words _ _ _ (c .check-table .ensures ∙ sym (ap (λ (x : Reading). checked x (call .before .before .before .before .args .listing .now)) e))
+    let e = reads-given _ _ _ _ (c .before .before .before .design .given .1) (means call) in
+    check-words _ _ _ (c .check-design .ensures ∙ sym (ap (λ (x : Reading). checked x (call .before .before .before .before .args .listing .now)) e))
 
 returns-2 : tie.Need-returns-2
 unfolding checked
@@ -48,8 +48,8 @@ check-spec =
     (tie.spec
     slice-aggregate-read-table
     read-table-requires
-    enum-known-sizes
-    check-table-requires
+    enum-known-design
+    check-design-requires
     enum-known-number
     returns
     returns-2)

@@ -36,7 +36,7 @@ seek-requires c κs = search needs
 
 returns : tie.Need-returns
 unfolding standsFor
-returns c = sym (listing-unfinished _ _ _ (first-stop (c .before)) (omega (arith, c .if1 .taken)))
+returns c = sym (listing-unfinished _ _ (first-stop (c .before)) _ (omega (arith, c .if1 .taken)))
 
 slice-aggregate-first-line : tie.Need-slice-aggregate-first-line
 slice-aggregate-first-line c = sym (length-take-le _ _ (omega (arith, before-end (c .before))))
@@ -55,7 +55,7 @@ unfolding standsFor
 returns-2 c =
     let test = c .before .before .before .before in
     let says = sym (c .before .before .first-line .ensures) ∙ c .enum-told .given .1 in
-    sym (listing-judged _ _ _ (first-stop (test .before)) (before-end test) ∙ rw says)
+    sym (listing-judged _ _ (first-stop (test .before)) _ (before-end test) ∙ rw says)
 
 alike-requires : tie.Need-alike-requires
 alike-requires c κs = search needs
@@ -67,7 +67,7 @@ returns-3 c =
     let test = form .before .before .before .before in
     let says = sym (form .before .before .first-line .ensures) ∙ form .form .given .1 in
     let unlike = sym (c .before .alike .ensures) ∙ not-true _ (c .if2 .taken) in
-    sym (listing-judged _ _ _ (first-stop (test .before)) (before-end test) ∙ rw (says, unlike))
+    sym (listing-judged _ _ (first-stop (test .before)) _ (before-end test) ∙ rw (says, unlike))
 
 next-line-requires : tie.Need-next-line-requires
 next-line-requires c κs =
@@ -94,7 +94,7 @@ returns-4 c =
     let zeros = test .before .before .before .before .pre in
     c .judge-terms .ensures
     ∙ rw (next .next-line .ensures .0, second-line next, zeros)
-    (sym (listing-judged _ _ _ (first-stop (test .before)) (before-end test) ∙ rw (says, same)))
+    (sym (listing-judged _ _ (first-stop (test .before)) _ (before-end test) ∙ rw (says, same)))
 
 pub judge-listing-spec : {M : Type 1} → statement M
 judge-listing-spec =

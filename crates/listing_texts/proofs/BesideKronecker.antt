@@ -1,0 +1,149 @@
+-- Listings beside a `K` table, in document 02's words: the number is 12 exactly where the listing is a `form` listing (`form-exactly`), and else 11
+-- (`other-exactly`). The first 8,192 bytes of a listing have the same number (`beside-first`). A `kron` listing is 11, line 1, beside
+-- every table (`kron-beside`, `kron-read`).
+use mathlib.Core.Bool.{Bool, true, false, cond, false≢true}
+use mathlib.Core.List.{List, [], _∷_, _++_, map, append-assoc}
+use mathlib.Core.Logic.{_⊎_, inl, inr, _↔_}
+use mathlib.Core.Path.{_≡_, refl, sym, ap, _∙_}
+use Prim.Native.Nat.{ℕ, _+_, _-_, _≤_}
+use native.Mathlib.Omega.{arith}
+use lib.Dec.{eqb}
+use lib.ListN.{length, take, drop, length-append, take-append-drop}
+use lib.Seq.{take-append-add}
+use Rattle.numbers.proofs.Tests.{both-right}
+use Rattle.listings.specs.Parts.{parts, bytes, same, fields, field}
+use Rattle.listings.specs.Listing.{tabbed, line, decimal}
+use Rattle.listings.proofs.Joined.{parts-lines}
+use Rattle.listings.proofs.Lengths.{digitsOf-le, length-numbers}
+use Rattle.listings.proofs.Meaning.{plain-form, plain-numbers}
+use Rattle.listings.proofs.Parts.{separated, parts-joined}
+use Rattle.lines.specs.Fields.{headed}
+use Rattle.table_texts.specs.declared.sizes.Sizes.{Sizes}
+use Rattle.listing_texts.specs.declared.form.Form.{Form}
+use Rattle.listing_texts.specs.declared.form.FirstLine.{FirstLine}
+use Rattle.listing_texts.specs.declared.form.FirstLine.the-variants.{States, Wrong}
+use Rattle.listing_texts.specs.Form.{firstLine, formNumbers, FormListing, KronListing}
+use Rattle.listing_texts.specs.Read.{refused, allLines, listingReading, besideLine, besideLines, besideKronecker}
+use Rattle.listing_texts.proofs.FormRead.{form-said, form-read}
+
+-- ---- a `form` listing
+
+form-beside : (s : List ℕ) → FormListing s → besideKronecker s ≡ 12
+unfolding besideKronecker besideLines
+form-beside s g =
+    let numbers : List ℕ = formNumbers (g .form) in
+    ap besideKronecker (g .characters)
+    ∙ rw (
+      parts-lines (bytes "form") (map decimal numbers) (g .rest) plain-form (plain-numbers numbers),
+      form-said (g .form) (g .digits),
+    )
+
+lines-form : (s l : List ℕ) (ls : List (List ℕ)) → l ++ separated 10 ls ≡ s → besideLines l ls ≡ 12 → FormListing s
+unfolding besideLines separated line
+lines-form s l [] e h = absurd (omega arith)
+lines-form s l (l′ ∷ ls) e h = go (firstLine l) refl h where
+  go : (x : FirstLine) → firstLine l ≡ x → besideLine x ≡ 12 → FormListing s
+  go (States f) says h =
+      let read = form-read l f says in
+      let rest : List ℕ = l′ ++ separated 10 ls in
+      let word : List ℕ = bytes "form" ++ tabbed (map decimal (formNumbers f)) in
+      record {
+        form = f;
+        digits = read .1;
+        rest = rest;
+        characters = sym e ∙ ap (λ (a : List ℕ). a ++ 10 ∷ rest) (read .0) ∙ sym (append-assoc word (10 ∷ []) rest);
+      }
+  go Wrong says h = absurd (omega arith)
+
+pub form-exactly : (s : List ℕ) → (besideKronecker s ≡ 12) ↔ FormListing s
+unfolding besideKronecker
+form-exactly s = (lines-form s (parts 10 s .first) (parts 10 s .others) (parts-joined 10 s), form-beside s)
+
+-- ---- any other
+
+lines-either : (l : List ℕ) (ls : List (List ℕ)) → (besideLines l ls ≡ 11) ⊎ (besideLines l ls ≡ 12)
+unfolding besideLines
+lines-either l [] = inl refl
+lines-either l (l′ ∷ ls) = go (firstLine l) where
+  go : (x : FirstLine) → (besideLine x ≡ 11) ⊎ (besideLine x ≡ 12)
+  go (States f) = inr refl
+  go Wrong = inl refl
+
+pub beside-either : (s : List ℕ) → (besideKronecker s ≡ 11) ⊎ (besideKronecker s ≡ 12)
+unfolding besideKronecker
+beside-either s = lines-either (parts 10 s .first) (parts 10 s .others)
+
+pub other-exactly : (s : List ℕ) → (besideKronecker s ≡ 11) ↔ (FormListing s → ⊥)
+other-exactly s = (λ e g. omega (arith, form-beside s g), λ none. go none (beside-either s)) where
+  go : (FormListing s → ⊥) → (besideKronecker s ≡ 11) ⊎ (besideKronecker s ≡ 12) → besideKronecker s ≡ 11
+  go none (inl e) = e
+  go none (inr e) = absurd (none (form-exactly s .0 e))
+
+-- ---- the first 8,192 bytes
+
+first-le : (f : Form) → length (line (bytes "form") (map decimal (formNumbers f))) ≤ 40
+unfolding line bytes
+first-le f =
+    let xs : List ℕ = formNumbers f in
+    omega (arith, length-append (tabbed (map decimal xs)) (10 ∷ []), length-numbers xs, digitsOf-le xs)
+
+form-first : (s : List ℕ) → FormListing s → FormListing (take 8192 s)
+form-first s g =
+    let first : List ℕ = line (bytes "form") (map decimal (formNumbers (g .form))) in
+    let long : 8192 ≡ length first + (8192 - length first) = omega (arith, first-le (g .form)) in
+    record {
+      form = g .form;
+      digits = g .digits;
+      rest = take (8192 - length first) (g .rest);
+      characters =
+          ap (take 8192) (g .characters)
+          ∙ ap (λ (i : ℕ). take i (first ++ g .rest)) long
+          ∙ take-append-add first (g .rest) (8192 - length first);
+    }
+
+form-whole : (s : List ℕ) → FormListing (take 8192 s) → FormListing s
+form-whole s g =
+    let first : List ℕ = line (bytes "form") (map decimal (formNumbers (g .form))) in
+    record {
+      form = g .form;
+      digits = g .digits;
+      rest = g .rest ++ drop 8192 s;
+      characters =
+          sym (take-append-drop 8192 s)
+          ∙ ap (λ (l : List ℕ). l ++ drop 8192 s) (g .characters)
+          ∙ append-assoc first (g .rest) (drop 8192 s);
+    }
+
+pub beside-first : (s : List ℕ) → besideKronecker (take 8192 s) ≡ besideKronecker s
+beside-first s = go (beside-either s) where
+  go : (besideKronecker s ≡ 11) ⊎ (besideKronecker s ≡ 12) → besideKronecker (take 8192 s) ≡ besideKronecker s
+  go (inl e) = other-exactly (take 8192 s) .1 (λ g. other-exactly s .0 e (form-whole s g)) ∙ sym e
+  go (inr e) = form-exactly (take 8192 s) .1 (form-first s (form-exactly s .0 e)) ∙ sym e
+
+-- ---- a `kron` listing
+
+-- no line of the word `kron` is a `form` line
+kron-wrong : (l : List ℕ) → field 0 l ≡ bytes "kron" → firstLine l ≡ Wrong
+unfolding firstLine headed same bytes
+kron-wrong l e = go (headed 8 (bytes "form") l) refl _ where
+  go : (t : Bool) → headed 8 (bytes "form") l ≡ t → (x : FirstLine) → cond t x Wrong ≡ Wrong
+  go true h x = absurd (false≢true (ap (λ (f : List ℕ). same f (bytes "form")) (sym e) ∙ both-right (eqb (length (fields l)) 8) _ h))
+  go false h x = refl
+
+kron-lines : (l : List ℕ) (ls : List (List ℕ)) → field 0 l ≡ bytes "kron" → besideLines l ls ≡ 11
+unfolding besideLines
+kron-lines l [] e = refl
+kron-lines l (l′ ∷ ls) e = ap besideLine (kron-wrong l e)
+
+pub kron-beside : (s : List ℕ) → KronListing s → besideKronecker s ≡ 11
+unfolding besideKronecker
+kron-beside s e = kron-lines (parts 10 s .first) (parts 10 s .others) e
+
+kron-all : (z : Sizes) (l : List ℕ) (ls : List (List ℕ)) → field 0 l ≡ bytes "kron" → allLines z l ls ≡ refused 11 1
+unfolding allLines
+kron-all z l [] e = refl
+kron-all z l (l′ ∷ ls) e = rw (kron-wrong l e)
+
+pub kron-read : (z : Sizes) (s : List ℕ) → KronListing s → listingReading z s ≡ refused 11 1
+unfolding listingReading
+kron-read z s e = kron-all z (parts 10 s .first) (parts 10 s .others) e
