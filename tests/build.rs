@@ -1,4 +1,4 @@
-//! Finds the static library of the calls, and compiles the search in C that the benchmarks time.
+//! Finds the static library of the calls, and compiles the searches in C that the benchmarks time.
 
 use std::env;
 use std::path::{Path, PathBuf};
@@ -6,7 +6,8 @@ use std::process::Command;
 
 fn main() {
     link_calls();
-    link_c_search();
+    link_c("search", "blocksearch");
+    link_c("kronecker", "kroneckersearch");
 }
 
 fn variable(name: &str) -> PathBuf {
@@ -27,16 +28,15 @@ fn link_calls() {
     }
 }
 
-/// `c/search.c`, compiled by gcc.
-fn link_c_search() {
-    println!("cargo:rerun-if-changed=c/search.c");
+/// A source of `c/`, compiled by gcc into a library.
+fn link_c(source: &str, library: &str) {
+    let path = format!("c/{source}.c");
+    println!("cargo:rerun-if-changed={path}");
     let directory = variable("OUT_DIR");
-    let (object, library) = (directory.join("search.o"), directory.join("libblocksearch.a"));
-    run(Command::new("gcc")
-        .args(["-O3", "-std=c11", "-fPIC", "-c", "c/search.c", "-o"])
-        .arg(&object));
-    run(Command::new("ar").arg("crs").arg(library).arg(object));
-    link(&directory, "blocksearch");
+    let object = directory.join(source).with_extension("o");
+    run(Command::new("gcc").args(["-O3", "-std=c11", "-fPIC", "-c", &path, "-o"]).arg(&object));
+    run(Command::new("ar").arg("crs").arg(directory.join(format!("lib{library}.a"))).arg(object));
+    link(&directory, library);
 }
 
 fn link(directory: &Path, library: &str) {

@@ -2,10 +2,10 @@
 //! length in decimal digits, and in its `stdout`, with the listing of each text or its line `refused`,
 //! number, line. Both come from the evaluator.
 
-use crate::marked::{ACCEPTED, DESIGNS, Marked, REFUSED, bytes};
+use crate::marked::{ACCEPTED, DESIGNS, Marked, REFUSED, bytes, kronecker};
 use crate::seeded::Seeded;
 use crate::seeded::tables::{any_table, longest_listing_table, random_table};
-use crate::seeded::texts::{damaged_text, sound_text};
+use crate::seeded::texts::{damaged_text, kronecker_text, sound_text, with_k_somewhere};
 use crate::text::{Design, printed};
 
 /// The two files of the program, and how many texts they hold.
@@ -19,7 +19,8 @@ impl Cases {
     /// The cases that the evaluator writes, the same in every run.
     pub fn written() -> Self {
         let mut seeded = Seeded::new(71);
-        let texts = [marked_texts(), sound_texts(&mut seeded), damaged_texts(&mut seeded)].concat();
+        let block = [marked_texts(), sound_texts(&mut seeded), damaged_texts(&mut seeded)].concat();
+        let texts = [block, kronecker_texts(&mut Seeded::new(72))].concat();
         let framed =
             |text: &Vec<u8>| [format!("{}\n", text.len()).into_bytes(), text.clone()].concat();
         Cases {
@@ -31,7 +32,7 @@ impl Cases {
 }
 
 fn text_of(n: usize, m: usize, k: usize, table: Vec<u8>) -> Vec<u8> {
-    Design { n, m, k, table }.text()
+    Design::block(n, m, k, table).text()
 }
 
 /// The texts whose answers are written down by hand.
@@ -62,4 +63,24 @@ fn damaged_texts(seeded: &mut Seeded) -> Vec<Vec<u8>> {
         damaged_text(seeded, &text)
     };
     (0..250).map(damaged).collect()
+}
+
+/// Texts with `K`: the marked ones, the longest listing, one for every n and m, and damaged ones.
+fn kronecker_texts(seeded: &mut Seeded) -> Vec<Vec<u8>> {
+    let accepted = kronecker::ACCEPTED.iter().map(|(text, _)| bytes(text));
+    let refused = kronecker::REFUSED.iter().map(|(text, _, _)| bytes(text));
+    let mut texts: Vec<Vec<u8>> = accepted.chain(refused).collect();
+    texts.push(Design::kronecker(8, 8, longest_listing_table()).text());
+    for n in 1..=8 {
+        for m in 1..=8 {
+            texts.push(Design::kronecker(n, m, any_table(seeded, n, m)).text());
+        }
+    }
+    for damage in [damaged_text, with_k_somewhere] {
+        for _ in 0..60 {
+            let (_, text) = kronecker_text(seeded, 4);
+            texts.push(damage(seeded, &text));
+        }
+    }
+    texts
 }

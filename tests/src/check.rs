@@ -1,9 +1,10 @@
-//! The fitter's check, as document 02's W-201 gives it: a listing is judged beside its table text.
+//! The fitter's check, as document 02's W-201 and W-202 give it: a listing is judged beside its table text.
 
 use crate::calls::CheckAnswer;
 use crate::class::{Member, is_of_a_member};
 use crate::evaluator::{Refusal, places};
-use crate::text::listing::{Listing, Product, cube_field};
+use crate::text::listing::{Listing, cube_field};
+use crate::text::products::Product;
 use crate::text::{read, refused};
 use std::collections::BTreeMap;
 

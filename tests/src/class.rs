@@ -72,7 +72,7 @@ pub struct Cost {
 
 impl Cost {
     /// The cost of a term with this many literals.
-    fn of_term(literals: usize, coefficient: u8) -> Self {
+    pub fn of_term(literals: usize, coefficient: u8) -> Self {
         let products = usize::from(coefficient != 0);
         Cost { products, literals: products * literals }
     }

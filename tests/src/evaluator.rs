@@ -26,7 +26,7 @@ pub fn places(n: usize) -> usize {
 }
 
 /// The bit of a point, a term or a polarity that goes with xi: bit i-1.
-fn bit(x: usize, i: usize) -> bool {
+pub fn bit(x: usize, i: usize) -> bool {
     (x >> (i - 1)) % 2 == 1
 }
 

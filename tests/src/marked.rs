@@ -1,7 +1,10 @@
 //! Designs and texts whose answers are written down by hand: document 01's own, the ones that tell a
 //! misreading of the method from the method, and texts on both sides of each refusal.
 
+pub mod kronecker;
 pub mod pairs;
+
+use std::iter::chain;
 
 /// A design with its figures.
 pub struct Marked {
@@ -66,7 +69,7 @@ pub fn bytes(written: &[u8]) -> Vec<u8> {
 /// Document 01's example.
 pub const EXAMPLE: &[u8] = b"table 2 2 1\non 0 01\non 1 10\non 2 10\non 3 10\nend\n";
 
-/// Texts that are accepted, each with its listing.
+/// Texts of the block class that are accepted, each with its listing.
 pub const ACCEPTED: [(&[u8], &[u8]); 15] = [
     (EXAMPLE, b"form 2 2 1 1 2 2 2\nterm -- 10\nterm 00 11\nend\n"),
     (b"table 2 1 0\nend\n", b"form 2 1 0 0 0 0 0\nend\n"),
@@ -101,7 +104,7 @@ pub const ACCEPTED: [(&[u8], &[u8]); 15] = [
 ];
 
 /// Texts that are refused, each with the refusal's number and line.
-pub const REFUSED: [(&[u8], u64, u64); 88] = [
+pub const REFUSED: [(&[u8], u64, u64); 87] = [
     (b"", 6, 1),
     (b"\n", 1, 1),
     (b"\0", 1, 1),
@@ -131,7 +134,6 @@ pub const REFUSED: [(&[u8], u64, u64); 88] = [
     (b"table 2 - 1\nend\n", 1, 1),
     (b"table 2 2 --\nend\n", 1, 1),
     (b"table 2 2 \nend\n", 1, 1),
-    (b"table 2 2 K\nend\n", 1, 1),
     (b"table 2 2 T\nend\n", 1, 1),
     (b"table 2 2 f1\nend\n", 1, 1),
     (b"table 2 2 :\nend\n", 1, 1),
@@ -197,6 +199,16 @@ pub const REFUSED: [(&[u8], u64, u64); 88] = [
     (b"table 2 2 1\nend\non 4 11\n", 6, 3),
 ];
 
+/// Every text that is accepted, with its listing.
+pub fn accepted() -> impl Iterator<Item = (&'static [u8], &'static [u8])> {
+    chain(ACCEPTED, kronecker::ACCEPTED)
+}
+
+/// Every text that is refused, with the refusal's number and line.
+pub fn refused() -> impl Iterator<Item = (&'static [u8], u64, u64)> {
+    chain(REFUSED, kronecker::REFUSED)
+}
+
 #[cfg(test)]
 mod tests {
     use super::*;
@@ -217,10 +229,10 @@ mod tests {
 
     #[test]
     fn texts() {
-        for (text, listing) in ACCEPTED {
-            assert_eq!(compile(&bytes(text)), Ok(bytes(listing)));
+        for (text, listing) in accepted() {
+            assert_eq!(compile(&bytes(text)), Ok(bytes(listing)), "{}", text.escape_ascii());
         }
-        for (text, number, line) in REFUSED {
+        for (text, number, line) in refused() {
             let refusal = Err(Refusal { number, line });
             assert_eq!(compile(&bytes(text)), refusal, "{}", text.escape_ascii());
         }

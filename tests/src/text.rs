@@ -1,26 +1,84 @@
-//! Table texts, read and written as document 01 gives them, and what the text calls make of them.
+//! Table texts, read and written as documents 01 and 02 give them, and what the text calls make of them.
 
 mod fields;
+pub mod kron;
 pub mod listing;
+pub mod products;
 
-use crate::class::least;
 use crate::evaluator::{Refusal, judge_lengths, places};
+use crate::{class, kronecker};
 use fields::{Line, Lines, outputs_field, read_digit, read_number, read_outputs};
+use kron::KronListing;
 use listing::Listing;
+
+/// The kind of k: what the k field selects.
+#[derive(Clone, Copy, Debug, PartialEq, Eq)]
+pub enum Kind {
+    /// The block class with this many mixed inputs: a digit, or `-` for 1.
+    Block(usize),
+    /// The Kronecker expansions: `K`.
+    Kronecker,
+}
+
+impl Kind {
+    /// The k field of a table text.
+    fn read(field: &[u8]) -> Option<Self> {
+        match field {
+            b"K" => Some(Kind::Kronecker),
+            b"-" => Some(Kind::Block(1)),
+            _ => read_digit(field).map(Kind::Block),
+        }
+    }
+
+    /// The k field of a table text, with no `-`.
+    fn field(self) -> String {
+        match self {
+            Kind::Block(k) => k.to_string(),
+            Kind::Kronecker => "K".to_string(),
+        }
+    }
+
+    /// k and the kind as the reading call returns them.
+    pub fn numbers(self) -> [u64; 2] {
+        match self {
+            Kind::Block(k) => [k as u64, 1],
+            Kind::Kronecker => [0, 2],
+        }
+    }
+}
 
 /// What a table text says.
 #[derive(Clone, Debug, PartialEq, Eq)]
 pub struct Design {
     pub n: usize,
     pub m: usize,
-    pub k: usize,
+    pub kind: Kind,
     pub table: Vec<u8>,
 }
 
 impl Design {
-    /// The table text, with k as a digit.
+    /// A design for the block class with k mixed inputs.
+    pub fn block(n: usize, m: usize, k: usize, table: Vec<u8>) -> Self {
+        Design { n, m, kind: Kind::Block(k), table }
+    }
+
+    /// A design for the Kronecker expansions.
+    pub fn kronecker(n: usize, m: usize, table: Vec<u8>) -> Self {
+        Design { n, m, kind: Kind::Kronecker, table }
+    }
+
+    /// The number of mixed inputs of a design for the block class.
+    #[track_caller]
+    pub fn k(&self) -> usize {
+        match self.kind {
+            Kind::Block(k) => k,
+            Kind::Kronecker => panic!("Kronecker expansions have no mixed inputs"),
+        }
+    }
+
+    /// The table text, with k as a digit or as `K`.
     pub fn text(&self) -> Vec<u8> {
-        self.text_with(&self.k.to_string())
+        self.text_with(&self.kind.field())
     }
 
     /// The table text with this field for k, which can be `-` for 1.
@@ -60,26 +118,27 @@ pub fn read(text: &[u8]) -> Result<Design, Refusal> {
 
 /// `table`, n, m, k, judged in the order 1, 2, 3, 4.
 fn read_first(line: &Line) -> Result<Design, Refusal> {
-    let numbers = match line.fields[..] {
-        [b"table", n, m, b"-"] => read_digit(n).zip(read_digit(m)).map(|(n, m)| (n, m, 1)),
-        [b"table", n, m, k] => read_three(n, m, k),
+    let sizes = match line.fields[..] {
+        [b"table", n, m, k] => read_sizes(n, m, k),
         _ => None,
     };
-    let (n, m, k) = numbers.ok_or(line.refusal(1))?;
+    let (n, m, kind) = sizes.ok_or(line.refusal(1))?;
     if !(1..=8).contains(&n) {
         return Err(line.refusal(2));
     }
     if !(1..=8).contains(&m) {
         return Err(line.refusal(3));
     }
-    if k > 3 || k > n {
+    if let Kind::Block(k) = kind
+        && (k > 3 || k > n)
+    {
         return Err(line.refusal(4));
     }
-    Ok(Design { n, m, k, table: vec![0; places(n)] })
+    Ok(Design { n, m, kind, table: vec![0; places(n)] })
 }
 
-fn read_three(n: &[u8], m: &[u8], k: &[u8]) -> Option<(usize, usize, usize)> {
-    Some((read_digit(n)?, read_digit(m)?, read_digit(k)?))
+fn read_sizes(n: &[u8], m: &[u8], k: &[u8]) -> Option<(usize, usize, Kind)> {
+    Some((read_digit(n)?, read_digit(m)?, Kind::read(k)?))
 }
 
 /// `on`, point, outputs.
@@ -93,7 +152,12 @@ fn read_on(line: &Line, m: usize) -> Option<(usize, u8)> {
 /// The listing of a table text, or its refusal.
 pub fn compile(text: &[u8]) -> Result<Vec<u8>, Refusal> {
     let design = read(text)?;
-    Ok(Listing::of(&design, &least(design.n, design.k, &design.table)).bytes())
+    Ok(match design.kind {
+        Kind::Block(k) => Listing::of(&design, &class::least(design.n, k, &design.table)).bytes(),
+        Kind::Kronecker => {
+            KronListing::of(design.m, &kronecker::least(design.n, &design.table)).bytes()
+        }
+    })
 }
 
 /// What the program writes for a text: the listing, or `refused`, number, line.

@@ -6,20 +6,22 @@ use outside_cases::check::{self, Verdict};
 use outside_cases::evaluator::{Refusal, places};
 use outside_cases::lent::{Lent, answer};
 use outside_cases::marked::pairs::{self, EXAMPLE_LISTING};
-use outside_cases::marked::{ACCEPTED, EXAMPLE, REFUSED, bytes};
+use outside_cases::marked::{ACCEPTED, EXAMPLE, bytes, kronecker, refused};
 use outside_cases::seeded::Seeded;
 use outside_cases::seeded::listings::{
     any_listing, break_line, change_counts, change_cube, change_outputs, change_polarities,
     drawn_listing, drop_term, empty_listing, true_counts, with_other_byte, with_other_sizes,
 };
 use outside_cases::seeded::tables::{longest_listing_table, random_table};
-use outside_cases::seeded::texts::{TELLING_BYTES, damaged_text, sound_text, with_other_lines};
-use outside_cases::text::Design;
+use outside_cases::seeded::texts::{
+    TELLING_BYTES, damaged_text, kronecker_text, sound_text, with_k_somewhere, with_other_lines,
+};
 use outside_cases::text::listing::Listing;
+use outside_cases::text::{Design, Kind, compile};
 use std::collections::BTreeMap;
 
 /// How many pairs are drawn, the same number of each family.
-const PAIRS: usize = 8000;
+const PAIRS: usize = 10_000;
 
 /// How often a family gives each of its outcomes, at least.
 const LEAST: usize = 5;
@@ -120,7 +122,7 @@ struct Family {
     pair: fn(&mut Seeded) -> Pair,
 }
 
-const FAMILIES: [Family; 20] = [
+const FAMILIES: [Family; 25] = [
     Family { name: "our listing", outcomes: &[Same], pair: own_listing },
     Family {
         name: "a character of a cube",
@@ -209,6 +211,31 @@ const FAMILIES: [Family; 20] = [
         outcomes: &[Differs, NotOfClass],
         pair: |seeded| cubes_beside(seeded, change_table),
     },
+    Family {
+        name: "a form listing of the table beside its K text",
+        outcomes: &[OtherListing],
+        pair: |seeded| form_beside_k(seeded, |_, listing| listing.to_vec()),
+    },
+    Family {
+        name: "a form listing with one byte changed beside a K text",
+        outcomes: &[BadListing, OtherListing],
+        pair: |seeded| form_beside_k(seeded, on_first_line),
+    },
+    Family {
+        name: "a form listing with other lines beside a K text",
+        outcomes: &[BadListing, OtherListing],
+        pair: |seeded| form_beside_k(seeded, with_other_lines),
+    },
+    Family {
+        name: "a kron listing beside its K text, or with a digit there",
+        outcomes: &[BadListing],
+        pair: kron_listing,
+    },
+    Family {
+        name: "a K text, as it is or with a K somewhere",
+        outcomes: &[BadTable, BadListing, OtherListing],
+        pair: k_somewhere,
+    },
 ];
 
 fn own_listing(seeded: &mut Seeded) -> Pair {
@@ -284,7 +311,7 @@ fn member_of_another(seeded: &mut Seeded) -> Pair {
 
 fn other_sizes(seeded: &mut Seeded) -> Pair {
     let ((design, text), (other, _)) = (drawn(seeded), drawn(seeded));
-    if [design.n, design.m, design.k] == [other.n, other.m, other.k] {
+    if (design.n, design.m, design.kind) == (other.n, other.m, other.kind) {
         return other_sizes(seeded);
     }
     Pair { text, listing: any_listing(seeded, &other).bytes() }
@@ -305,6 +332,41 @@ fn cubes_beside(seeded: &mut Seeded, change: fn(&mut Seeded, &mut Design)) -> Pa
     design.table = (0..places(design.n)).map(|p| listing.value(p)).collect();
     change(seeded, &mut design);
     Pair { text: design.text(), listing: listing.bytes() }
+}
+
+/// A `K` text beside a `form` listing of any member that gives its table, with a change in its bytes.
+fn form_beside_k(seeded: &mut Seeded, change: fn(&mut Seeded, &[u8]) -> Vec<u8>) -> Pair {
+    let (design, _) = drawn(seeded);
+    let listing = any_listing(seeded, &design).bytes();
+    let text = Design { kind: Kind::Kronecker, ..design }.text();
+    Pair { text, listing: change(seeded, &listing) }
+}
+
+/// A listing with one byte of its first line changed, dropped or put in.
+fn on_first_line(seeded: &mut Seeded, listing: &[u8]) -> Vec<u8> {
+    let end = listing.iter().position(|&byte| byte == b'\n').expect("a line has an end");
+    let (first, rest) = listing.split_at(end);
+    [&with_other_byte(seeded, first)[..], rest].concat()
+}
+
+/// The listing that the evaluator writes for a `K` text, beside this text or beside the same table with a
+/// digit.
+fn kron_listing(seeded: &mut Seeded) -> Pair {
+    let (design, text) = kronecker_text(seeded, 5);
+    let listing = compile(&text).expect("a sound text");
+    let digit = Design::block(design.n, design.m, seeded.below(design.n.min(3) + 1), design.table);
+    Pair { text: if seeded.once_in(2) { text } else { digit.text() }, listing }
+}
+
+/// A `K` text, as it is or with a `K` somewhere, beside a `form` listing or its own.
+fn k_somewhere(seeded: &mut Seeded) -> Pair {
+    let (design, text) = kronecker_text(seeded, 3);
+    let listing = match seeded.below(3) {
+        0 => compile(&text).expect("a sound text"),
+        _ => any_listing(seeded, &Design { kind: Kind::Block(1), ..design }).bytes(),
+    };
+    let text = if seeded.once_in(3) { text } else { with_k_somewhere(seeded, &text) };
+    Pair { text, listing }
 }
 
 /// Drawn pairs of each family. A family that no longer gives one of its outcomes fails.
@@ -330,14 +392,18 @@ fn marked_pairs() {
     }
 }
 
-/// The marked texts: an accepted one is the same beside its listing, a refused one is refused as it is by
-/// the reading call, whatever the listing is.
+/// The marked texts: an accepted one is the same beside its `form` listing, and its `kron` listing is refused;
+/// a refused one is refused as it is by the reading call, whatever the listing is.
 #[test]
 fn marked_texts() {
     for (text, listing) in ACCEPTED {
         check_answer(&bytes(text), &bytes(listing), [0, 0, 1, 0]);
     }
-    for (text, number, line) in REFUSED {
+    for (text, listing) in kronecker::ACCEPTED {
+        check_answer(&bytes(text), &bytes(listing), [11, 1, 0, 0]);
+        check_answer(&bytes(text), &bytes(EXAMPLE_LISTING), [12, 1, 0, 0]);
+    }
+    for (text, number, line) in refused() {
         for listing in [EXAMPLE_LISTING, b"", b"form 9 9 9 1 2 2 2\n"] {
             check_answer(&bytes(text), &bytes(listing), [number, line, 0, 0]);
         }
@@ -361,15 +427,19 @@ fn members_beside_two_tables() {
     }
 }
 
-/// Every byte of a listing changed into every other.
+/// Every byte of a listing changed into every other, beside a text with a digit and one with `K`.
 #[test]
 fn every_byte_changed() {
-    let (text, listing) = (bytes(EXAMPLE), bytes(EXAMPLE_LISTING));
+    let listing = bytes(EXAMPLE_LISTING);
+    let design = Design::block(2, 2, 1, vec![2, 1, 1, 1]);
+    let texts = [design.text(), design.text_with("K")];
     for place in 0..listing.len() {
         for byte in 0..=255 {
             let mut changed = listing.clone();
             changed[place] = byte;
-            check_pair(&text, &changed);
+            for text in &texts {
+                check_pair(text, &changed);
+            }
         }
     }
 }
@@ -396,8 +466,8 @@ fn every_place_edited() {
 /// Every M and every i below 300, with no `term` line and with the lines of the example.
 #[test]
 fn every_mixed_set_and_polarity() {
-    let example = Design { n: 2, m: 2, k: 1, table: vec![2, 1, 1, 1] };
-    let zero = Design { n: 3, m: 1, k: 2, table: vec![0; 8] };
+    let example = Design::block(2, 2, 1, vec![2, 1, 1, 1]);
+    let zero = Design::block(3, 1, 2, vec![0; 8]);
     for design in [example, zero] {
         let text = design.text();
         let listing = ours_read(&design, &text);
@@ -414,7 +484,7 @@ fn every_mixed_set_and_polarity() {
 fn long_listings() {
     let mut seeded = Seeded::new(83);
     for k in 0..=3 {
-        let design = Design { n: 8, m: 8, k, table: longest_listing_table() };
+        let design = Design::block(8, 8, k, longest_listing_table());
         let (text, listing) = (design.text(), any_listing(&mut seeded, &design).bytes());
         assert_eq!(check_pair(&text, &listing), Same);
         for length in (0..listing.len()).step_by(331) {

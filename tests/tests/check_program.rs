@@ -36,6 +36,10 @@ fn lines() {
     assert_eq!(written(&x2, &own), b"refused\t12\t1\n");
     assert_eq!(written(&x2, &bytes(b"form 2 1 0 0 0 0 0\n")), b"refused\t11\t2\n");
     assert_eq!(written(b"", b""), b"refused\t6\t1\n");
+    let kronecker = bytes(b"table 2 1 K\non 2 1\non 3 1\nend\n");
+    assert_eq!(written(&kronecker, &own), b"refused\t12\t1\n");
+    let kron = bytes(b"kron 2 1 SP 1 1\nterm 1- 1\nend\n");
+    assert_eq!(written(&kronecker, &kron), b"refused\t11\t1\n");
     let last = bytes(b"table 8 1 3\non 255 1\nend\n");
     assert_eq!(written(&last, &bytes(b"form 8 1 3 7 0 0 0\nend\n")), b"differs\t255\n");
 }
@@ -62,7 +66,7 @@ fn drawn_pairs() {
 /// The longest text beside the longest listing.
 #[test]
 fn longest() {
-    let design = Design { n: 8, m: 8, k: 3, table: longest_listing_table() };
+    let design = Design::block(8, 8, 3, longest_listing_table());
     let listing = any_listing(&mut Seeded::new(92), &design).bytes();
     check_files(&design.text(), &listing);
 }

@@ -1,9 +1,10 @@
 //! The designs of `examples/`: `rmform` writes each stored listing, the evaluator agrees, and `rmcheck` says
-//! `same` of it; and the edited listings of `examples/checks/`, with the line that `rmcheck` writes for each.
+//! `same` of a `form` listing and refuses a `kron` listing with 11, line 1; and the edited listings of
+//! `examples/checks/`, with the line that `rmcheck` writes for each.
 
 use outside_cases::check;
 use outside_cases::program::{run, run_check};
-use outside_cases::text::printed;
+use outside_cases::text::{Kind, printed};
 use std::fs::{read, read_dir};
 use std::path::{Path, PathBuf};
 
@@ -15,24 +16,35 @@ fn tables() -> Vec<PathBuf> {
     paths.filter(|path| path.extension().is_some_and(|end| end == "table")).collect()
 }
 
+fn is_kronecker(text: &[u8]) -> bool {
+    outside_cases::text::read(text).expect("a sound text").kind == Kind::Kronecker
+}
+
+/// How the listing of this text begins.
+fn first_word(text: &[u8]) -> &'static [u8] {
+    if is_kronecker(text) { b"kron\t" } else { b"form\t" }
+}
+
 #[test]
 fn listings_are_written() {
     let tables = tables();
-    assert!(tables.len() >= 5, "{} designs", tables.len());
+    assert!(tables.len() >= 9, "{} designs", tables.len());
     for table in tables {
         let text = read(&table).expect("a table text");
         let listing = read(table.with_extension("listing")).expect("its listing");
-        assert!(listing.starts_with(b"form\t"), "{}", table.display());
+        assert!(listing.starts_with(first_word(&text)), "{}", table.display());
         assert_eq!(run(&[&text], || ()), listing, "{}", table.display());
         assert_eq!(printed(&text), listing, "{}", table.display());
     }
 }
 
 #[test]
-fn listings_are_the_same() {
+fn listings_are_judged() {
     for table in tables() {
+        let text = read(&table).expect("a table text");
+        let wanted: &[u8] = if is_kronecker(&text) { b"refused\t11\t1\n" } else { b"same\n" };
         let listing = table.with_extension("listing");
-        assert_eq!(run_check(&[&table, &listing]).stdout, b"same\n", "{}", table.display());
+        assert_eq!(run_check(&[&table, &listing]).stdout, wanted, "{}", table.display());
     }
 }
 

@@ -81,7 +81,7 @@ fn declarations_are_those_of_the_exported_functions() {
 #[test]
 fn limits_and_lengths() {
     let constants = constants(&header());
-    let longest = Design { n: 8, m: 8, k: 3, table: longest_listing_table() }.text();
+    let longest = Design::kronecker(8, 8, longest_listing_table()).text();
     for (name, number) in [
         ("MOST_INPUTS", 8),
         ("MOST_OUTPUTS", 8),

@@ -1,10 +1,10 @@
 //! The program `rmform`: standard input to standard output.
 
-use outside_cases::marked::{ACCEPTED, EXAMPLE, REFUSED, bytes};
+use outside_cases::marked::{EXAMPLE, accepted, bytes, refused};
 use outside_cases::program::{JUDGED_BYTES, run};
 use outside_cases::seeded::Seeded;
 use outside_cases::seeded::tables::{longest_listing_table, random_table};
-use outside_cases::seeded::texts::{damaged_text, sound_text};
+use outside_cases::seeded::texts::{damaged_text, kronecker_text, sound_text, with_k_somewhere};
 use outside_cases::text::{Design, printed};
 use std::thread::sleep;
 use std::time::Duration;
@@ -23,14 +23,14 @@ fn check_judged(input: &[u8]) {
 
 #[test]
 fn accepted_texts() {
-    for (text, listing) in ACCEPTED {
+    for (text, listing) in accepted() {
         check(&bytes(text), &bytes(listing));
     }
 }
 
 #[test]
 fn refused_texts() {
-    for (text, number, line) in REFUSED {
+    for (text, number, line) in refused() {
         check(&bytes(text), format!("refused\t{number}\t{line}\n").as_bytes());
     }
 }
@@ -45,6 +45,17 @@ fn drawn_texts() {
     }
 }
 
+#[test]
+fn drawn_kronecker_texts() {
+    let mut seeded = Seeded::new(63);
+    for round in 0..80 {
+        let (_, text) = kronecker_text(&mut seeded, if round % 5 == 0 { 8 } else { 4 });
+        check_judged(&text);
+        check_judged(&damaged_text(&mut seeded, &text));
+        check_judged(&with_k_somewhere(&mut seeded, &text));
+    }
+}
+
 /// All zero, all one and drawn tables of every size, with every k.
 #[test]
 fn every_size() {
@@ -55,19 +66,24 @@ fn every_size() {
             let size = 1 << n;
             let drawn = random_table(&mut seeded, n, m);
             for table in [vec![0; size], vec![1; size], drawn] {
-                check_judged(&Design { n, m, k, table }.text());
+                check_judged(&Design::block(n, m, k, table.clone()).text());
+                check_judged(&Design::kronecker(n, m, table).text());
             }
         }
     }
 }
 
-/// The longest text, and the longest listing.
+/// The longest text, and the longest listing of each kind of k.
 #[test]
 fn longest() {
     let table = longest_listing_table();
-    let text = Design { n: 8, m: 8, k: 3, table }.text();
-    assert_eq!((text.len(), printed(&text).len()), (4002, 5916));
-    check_judged(&text);
+    for (design, length) in
+        [(Design::block(8, 8, 3, table.clone()), 5916), (Design::kronecker(8, 8, table), 5919)]
+    {
+        let text = design.text();
+        assert_eq!((text.len(), printed(&text).len()), (4002, length));
+        check_judged(&text);
+    }
 }
 
 /// Inputs of exactly 8,192 bytes, of one more, and of many more, sound up to where they are filled up.

@@ -3,12 +3,16 @@
 use outside_cases::calls::{self, CompileAnswer, ReadAnswer};
 use outside_cases::check::{Verdict, check};
 use outside_cases::evaluator::{Refusal, places};
+use outside_cases::kronecker::Kinds;
 use outside_cases::lent::{Lent, answer};
-use outside_cases::marked::{ACCEPTED, EXAMPLE, REFUSED, bytes};
+use outside_cases::marked::{EXAMPLE, accepted, bytes, refused};
 use outside_cases::seeded::Seeded;
-use outside_cases::seeded::tables::{longest_listing_table, random_table};
-use outside_cases::seeded::texts::{TELLING_BYTES, damaged_text, sound_text};
-use outside_cases::text::{Design, compile, judge_output, judge_read, read};
+use outside_cases::seeded::tables::{any_table, every_table, longest_listing_table, random_table};
+use outside_cases::seeded::texts::{
+    K_FIELDS, TELLING_BYTES, damaged_text, kronecker_text, sound_text, with_k_somewhere,
+};
+use outside_cases::text::kron::KronListing;
+use outside_cases::text::{Design, Kind, compile, judge_output, judge_read, read};
 
 /// Makes the reading call with margins around every buffer.
 fn run_read(text: &[u8], lent: &[u8]) -> (ReadAnswer, Lent<u8>) {
@@ -35,13 +39,14 @@ fn check_read(seeded: &mut Seeded, text: &[u8], table_length: usize) {
     let (answer, table) = run_read(text, &seeded.bytes(table_length));
     let shown = text.escape_ascii();
     match judge_read(text, table_length) {
-        Ok(Design { n, m, k, table: wanted }) => {
-            assert_eq!(answer, [0, 0, n as u64, m as u64, k as u64], "{shown}");
+        Ok(Design { n, m, kind, table: wanted }) => {
+            let [k, kind] = kind.numbers();
+            assert_eq!(answer, [0, 0, n as u64, m as u64, k, kind], "{shown}");
             assert_eq!(table.inside()[..places(n)], wanted, "{shown}");
             assert!(table.inside()[places(n)..].iter().all(|&byte| byte == 0), "{shown}");
         }
         Err(Refusal { number, line }) => {
-            assert_eq!(answer, [number, line, 0, 0, 0], "{shown}");
+            assert_eq!(answer, [number, line, 0, 0, 0, 0], "{shown}");
             table.check_untouched();
         }
     }
@@ -66,13 +71,26 @@ fn check_output(
             let (written, kept) = output.inside().split_at(listing.len());
             assert_eq!(written.escape_ascii().to_string(), listing.escape_ascii().to_string());
             assert_eq!(kept, &output.before()[listing.len()..], "{shown}");
-            assert_eq!(check(text, written), Ok(Verdict::Same), "{shown}");
+            check_lines(text, written);
         }
         Err(Refusal { number, line }) => {
             assert_eq!(answer, [number, line, 0], "{shown}");
             output.check_untouched();
         }
     }
+}
+
+/// What the written listing's own lines say is the table, and the counts are theirs.
+fn check_lines(text: &[u8], written: &[u8]) {
+    let design = read(text).expect("the text is accepted");
+    if let Kind::Block(_) = design.kind {
+        assert_eq!(check(text, written), Ok(Verdict::Same), "{}", text.escape_ascii());
+        return;
+    }
+    let listing = KronListing::read(written).expect("a sound listing");
+    assert_eq!((listing.letters.len(), listing.m), (design.n, design.m));
+    assert!((0..places(design.n)).all(|p| listing.value(p) == design.table[p]));
+    assert_eq!(listing.stated, listing.counted());
 }
 
 /// Both calls on one text: a table of 256 bytes, and an output buffer that is long enough.
@@ -86,12 +104,12 @@ fn check_text(seeded: &mut Seeded, text: &[u8]) {
 #[test]
 fn marked_texts() {
     let mut seeded = Seeded::new(41);
-    for (text, listing) in ACCEPTED {
+    for (text, listing) in accepted() {
         let text = bytes(text);
         check_read(&mut seeded, &text, 256);
         check_output(&mut seeded, &text, &Ok(bytes(listing)), 6000);
     }
-    for (text, number, line) in REFUSED {
+    for (text, number, line) in refused() {
         let text = bytes(text);
         check_read(&mut seeded, &text, 256);
         check_output(&mut seeded, &text, &Err(Refusal { number, line }), 6000);
@@ -122,7 +140,7 @@ fn sound_texts_of_every_size() {
 fn every_first_line() {
     let mut seeded = Seeded::new(44);
     for (n, m) in (b'0'..=b'9').flat_map(|n| (b'0'..=b'9').map(move |m| (n, m))) {
-        for k in (b'0'..=b'9').chain(*b"-") {
+        for k in (b'0'..=b'9').chain(*b"-K") {
             let first = [b"table\t", &[n, b'\t', m, b'\t', k][..], b"\n"].concat();
             let outputs = vec![b'1'; usize::from(m - b'0')];
             let on = [&b"on\t1\t"[..], &outputs, b"\n"].concat();
@@ -195,7 +213,7 @@ fn every_place_edited() {
 #[test]
 fn long_texts() {
     let mut seeded = Seeded::new(49);
-    let text = Design { n: 8, m: 8, k: 3, table: vec![255; 256] }.text();
+    let text = Design::block(8, 8, 3, vec![255; 256]).text();
     assert_eq!(text.len(), 4002);
     for length in (0..text.len()).step_by(61) {
         check_text(&mut seeded, &text[..length]);
@@ -219,7 +237,7 @@ fn long_texts() {
 #[test]
 fn output_lengths() {
     let mut seeded = Seeded::new(50);
-    let texts = ACCEPTED.iter().map(|(text, _)| bytes(text)).filter(|text| text[6] < b'4');
+    let texts = accepted().map(|(text, _)| bytes(text)).filter(|text| text[6] < b'4');
     for text in texts.collect::<Vec<_>>() {
         let compiled = compile(&text);
         let length = compiled.as_ref().map_or(0, Vec::len);
@@ -239,7 +257,7 @@ fn output_lengths() {
 #[test]
 fn bad_text_and_bad_buffer() {
     let mut seeded = Seeded::new(51);
-    for (text, number, line) in REFUSED {
+    for (text, number, line) in refused() {
         let text = bytes(text);
         for length in [0, 1, 255, 257, 300] {
             check_read(&mut seeded, &text, length);
@@ -265,13 +283,19 @@ fn table_lengths() {
 fn longest_listing() {
     let mut seeded = Seeded::new(53);
     for k in 0..=3 {
-        let design = Design { n: 8, m: 8, k, table: longest_listing_table() };
+        let design = Design::block(8, 8, k, longest_listing_table());
         let text = design.text();
         let compiled = compile(&text);
         assert_eq!(compiled.as_ref().map_or(0, Vec::len), 5916);
         for length in [0, 5915, 5916, 5917, 8192] {
             check_output(&mut seeded, &text, &compiled, length);
         }
+    }
+    let text = Design::kronecker(8, 8, longest_listing_table()).text();
+    let compiled = compile(&text);
+    assert_eq!(compiled.as_ref().map_or(0, Vec::len), 5919);
+    for length in [0, 5916, 5918, 5919, 5920, 8192] {
+        check_output(&mut seeded, &text, &compiled, length);
     }
 }
 
@@ -282,7 +306,120 @@ fn full_tables() {
     for (k, field) in [(0, "0"), (1, "1"), (1, "-"), (2, "2"), (3, "3")] {
         for m in [1, 8] {
             let table = random_table(&mut seeded, 8, m);
-            check_text(&mut seeded, &Design { n: 8, m, k, table }.text_with(field));
+            check_text(&mut seeded, &Design::block(8, m, k, table).text_with(field));
+        }
+    }
+}
+
+/// Every table of at most two inputs and two outputs with `K`.
+#[test]
+fn every_small_kronecker_table() {
+    let mut seeded = Seeded::new(55);
+    for (n, m) in [(1, 1), (1, 2), (2, 1), (2, 2)] {
+        for table in every_table(n, m) {
+            check_text(&mut seeded, &Design::kronecker(n, m, table).text());
+        }
+    }
+}
+
+#[test]
+fn kronecker_texts() {
+    let mut seeded = Seeded::new(56);
+    for round in 0..1200 {
+        let (design, text) = kronecker_text(&mut seeded, if round % 20 == 0 { 8 } else { 5 });
+        assert_eq!(read(&text), Ok(design));
+        check_text(&mut seeded, &text);
+    }
+}
+
+/// Every n and m with `K`, with tables of each sort.
+#[test]
+fn kronecker_texts_of_every_size() {
+    let mut seeded = Seeded::new(57);
+    for n in 1..=8 {
+        for m in 1..=8 {
+            for table in [any_table(&mut seeded, n, m), random_table(&mut seeded, n, m)] {
+                check_text(&mut seeded, &Design::kronecker(n, m, table).text());
+            }
+        }
+    }
+}
+
+/// The call's listing with `K` is before every rival: an expansion of each of the 3^n kinds that gives the
+/// table.
+#[test]
+fn kronecker_rivals() {
+    let mut seeded = Seeded::new(58);
+    for n in 1..=4 {
+        let kinds = Kinds::new(n);
+        for _ in 0..100 {
+            let m = seeded.within(1, 8);
+            let design = Design::kronecker(n, m, any_table(&mut seeded, n, m));
+            let (answer, output) = run_compile(&design.text(), &[0; 6000]);
+            let written = KronListing::read(&output.inside()[..answer[2] as usize]);
+            let ours = written.expect("a sound listing");
+            for rival in kinds.rivals(&design.table) {
+                assert_eq!(rival.table(), design.table);
+                let first = (ours.counted(), &ours.letters) <= (rival.cost, &rival.letters);
+                assert!(first, "{rival:?} is before {ours:?}");
+            }
+        }
+    }
+}
+
+#[test]
+fn damaged_kronecker_texts() {
+    let mut seeded = Seeded::new(59);
+    for round in 0..3000 {
+        let (_, text) = kronecker_text(&mut seeded, if round % 50 == 0 { 6 } else { 3 });
+        let damage = if round % 2 == 0 { damaged_text } else { with_k_somewhere };
+        let damaged = damage(&mut seeded, &text);
+        check_text(&mut seeded, &damaged);
+    }
+}
+
+/// A `K`, or nearly so, in every field of every line, and at every place of a text.
+#[test]
+fn k_everywhere() {
+    let mut seeded = Seeded::new(60);
+    let with_k = bytes(b"table 2 2 K\non 0 01\non 3 10\nend\n");
+    for text in [bytes(EXAMPLE), with_k] {
+        let lines: Vec<&[u8]> = text.split_inclusive(|&byte| byte == b'\n').collect();
+        for (place, line) in lines.iter().enumerate() {
+            let fields: Vec<&[u8]> = line[..line.len() - 1].split(|&byte| byte == 9).collect();
+            for field in 0..fields.len() {
+                for other in K_FIELDS {
+                    let mut fields = fields.clone();
+                    fields[field] = other.as_bytes();
+                    let line = [fields.join(&b"\t"[..]), b"\n".to_vec()].concat();
+                    let mut changed = lines.clone();
+                    changed[place] = &line;
+                    check_text(&mut seeded, &changed.concat());
+                }
+            }
+        }
+        for place in 0..text.len() {
+            let (before, after) = text.split_at(place);
+            check_text(&mut seeded, before);
+            check_text(&mut seeded, &[before, b"K", after].concat());
+            check_text(&mut seeded, &[before, b"K", &after[1..]].concat());
+        }
+    }
+}
+
+/// Output buffers of every length around the listing's, and lent tables of other lengths, with `K`.
+#[test]
+fn kronecker_buffers() {
+    let mut seeded = Seeded::new(61);
+    for _ in 0..60 {
+        let (_, text) = kronecker_text(&mut seeded, 5);
+        let compiled = compile(&text);
+        let length = compiled.as_ref().map_or(0, Vec::len);
+        for lent in (length - 3..=length + 3).chain([0, 1, length / 2, 2 * length]) {
+            check_output(&mut seeded, &text, &compiled, lent);
+        }
+        for length in [0, 1, 32, 255, 256, 257, 512] {
+            check_read(&mut seeded, &text, length);
         }
     }
 }

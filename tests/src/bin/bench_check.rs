@@ -182,7 +182,7 @@ fn main() {
     let mut seeded = Seeded::new(1);
     println!("k\tmicroseconds\tRust\tratio");
     for k in 0..=3 {
-        let design = Design { n: 8, m: 8, k, table: longest_listing_table() };
+        let design = Design::block(8, 8, k, longest_listing_table());
         let listing = any_listing(&mut seeded, &design);
         assert_eq!(listing.products.len(), 256);
         let (text, listing) = (design.text(), listing.bytes());

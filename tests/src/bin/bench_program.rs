@@ -17,10 +17,10 @@ const N: usize = 8;
 /// Milliseconds for the design by each of two programs, the start of the process taken off, and by the C code.
 fn milliseconds(design: &Design, programs: [&Path; 2]) -> [f64; 3] {
     let text = design.text();
-    let (mut coefficients, mut blocks) = ([0; 1 << N], vec![0; 1 << (N - design.k)]);
+    let (mut coefficients, mut blocks) = ([0; 1 << N], vec![0; 1 << (N - design.k())]);
     let mut search = || {
         let (table, filled) = (black_box(&design.table[..]), &mut coefficients);
-        c_search::minimise(N, design.m, design.k, table, filled, &mut blocks, &mut [0; 6]);
+        c_search::minimise(N, design.m, design.k(), table, filled, &mut blocks, &mut [0; 6]);
     };
     let run = |program: usize, input: &[u8]| {
         drop(black_box(run_at(programs[program], &[input], || ())));
@@ -49,7 +49,7 @@ fn main() {
     println!("table\tk\trmform\tC\trmform/C{more}");
     for (name, m, table) in tables {
         for k in 0..=3 {
-            let design = Design { n: N, m, k, table: table.clone() };
+            let design = Design::block(N, m, k, table.clone());
             let [ours, theirs, c] = milliseconds(&design, [&rmform, other]);
             print!("{name}\t{k}\t{ours:.2}\t{c:.2}\t{:.2}", ours / c);
             match before {

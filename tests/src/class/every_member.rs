@@ -1,44 +1,37 @@
 //! The least expansion over every member of the class, with the coefficients found by elimination.
 
 use super::{Expansion, Member, fixed_polarities, is_of_a_member, mixed_sets};
+use crate::elimination::{Solved, eliminate};
 use crate::evaluator::{places, term_true};
-
-/// A member, and for each term the points whose bytes sum to its coefficient.
-struct Solved {
-    member: Member,
-    points: Vec<Vec<usize>>,
-}
 
 /// Every member of the class for n inputs, k of them mixed, each solved by elimination (n up to 4).
 pub struct Class {
     n: usize,
-    solved: Vec<Solved>,
+    solved: Vec<(Member, Solved)>,
 }
 
 impl Class {
     pub fn new(n: usize, k: usize) -> Self {
-        let solved = members(n, k)
-            .into_iter()
-            .map(|member| Solved { points: eliminate(n, &member), member })
-            .collect();
+        let solve = |member: Member| (member.clone(), solve(n, &member));
+        let solved = members(n, k).into_iter().map(solve).collect();
         Class { n, solved }
     }
 
     /// The first member in document 01's order that gives the table.
     pub fn least(&self, table: &[u8]) -> Expansion {
-        let all: Vec<Expansion> =
-            self.solved.iter().map(|solved| solved.expansion(self.n, table)).collect();
+        let expansion = |(member, solved): &(Member, Solved)| {
+            Expansion::new(self.n, member.clone(), solved.coefficients(table))
+        };
+        let all: Vec<Expansion> = self.solved.iter().map(expansion).collect();
         let key = |e: &Expansion| (e.cost, e.member.mixed, e.member.fixed);
         let first = all.iter().map(key).min().expect("a class is not empty");
         least_blocks(all.into_iter().filter(|e| key(e) == first).collect())
     }
 }
 
-impl Solved {
-    fn expansion(&self, n: usize, table: &[u8]) -> Expansion {
-        let sum = |points: &Vec<usize>| points.iter().fold(0, |sum, &p| sum ^ table[p]);
-        Expansion::new(n, self.member.clone(), self.points.iter().map(sum).collect())
-    }
+fn solve(n: usize, member: &Member) -> Solved {
+    let polarities: Vec<usize> = (0..places(n)).map(|t| member.polarity(n, t)).collect();
+    eliminate(places(n), |t, p| term_true(n, t, polarities[t], p))
 }
 
 /// Of members that differ in the block polarities only: the one that is least in each block.
@@ -75,42 +68,4 @@ fn polarity_vectors(length: usize, limit: usize) -> Vec<Vec<usize>> {
             .collect();
     }
     lists
-}
-
-/// One equation of the elimination: the terms that are true at some points, and these points.
-#[derive(Clone, Copy)]
-struct Equation {
-    terms: u32,
-    points: u32,
-}
-
-/// For each term the points whose bytes sum to its coefficient: the inverse, over exclusive OR, of the
-/// relation "term t is true at p".
-fn eliminate(n: usize, member: &Member) -> Vec<Vec<usize>> {
-    let polarities: Vec<usize> = (0..places(n)).map(|t| member.polarity(n, t)).collect();
-    let mut equations: Vec<Equation> = (0..places(n))
-        .map(|p| Equation {
-            terms: (0..places(n)).map(|t| u32::from(term_true(n, t, polarities[t], p)) << t).sum(),
-            points: 1 << p,
-        })
-        .collect();
-    for t in 0..places(n) {
-        clear_column(&mut equations, t);
-    }
-    let points = |e: &Equation| (0..places(n)).filter(|p| e.points >> p & 1 == 1).collect();
-    equations.iter().map(points).collect()
-}
-
-/// Makes equation t the only one with term t.
-fn clear_column(equations: &mut [Equation], t: usize) {
-    let has = |e: &Equation| e.terms >> t & 1 == 1;
-    let pivot = (t..equations.len()).find(|&row| has(&equations[row]));
-    equations.swap(t, pivot.expect("each table has one set of coefficients"));
-    let chosen = equations[t];
-    for (row, equation) in equations.iter_mut().enumerate() {
-        if row != t && has(equation) {
-            equation.terms ^= chosen.terms;
-            equation.points ^= chosen.points;
-        }
-    }
 }

@@ -224,9 +224,58 @@ pub const REFUSED_TABLES: [MarkedPair; 6] = [
     (b"table 2 2 1\nend\nend\n", EXAMPLE_LISTING, refused(6, 3)),
 ];
 
+/// Tables of the Kronecker expansions: document 01's example, and all zero.
+const EXAMPLE_K: &[u8] = b"table 2 2 K\non 0 01\non 1 10\non 2 10\non 3 10\nend\n";
+const ZERO_K: &[u8] = b"table 2 1 K\nend\n";
+
+/// Pairs with a `K` table or a `kron` listing.
+pub const KRONECKER: [MarkedPair; 36] = [
+    // A `form` listing beside a `K` table is of another kind, whatever its numbers are.
+    (EXAMPLE_K, EXAMPLE_LISTING, refused(12, 1)),
+    (EXAMPLE_K, b"form 2 2 0 0 0 2 2\nterm -- 10\nterm 00 11\nend\n", refused(12, 1)),
+    (EXAMPLE_K, b"form 2 2 2 3 0 2 2\nterm -- 10\nterm 00 11\nend\n", refused(12, 1)),
+    (EXAMPLE_K, b"form 2 2 3 1 2 2 2\nend\n", refused(12, 1)),
+    (EXAMPLE_K, b"form 2 2 9 1 2 2 2\nend\n", refused(12, 1)),
+    (EXAMPLE_K, b"form 9999 9999 9 9999 9999 9999 9999\nend\n", refused(12, 1)),
+    (ZERO_K, b"form 2 1 0 0 0 0 0\nend\n", refused(12, 1)),
+    (ZERO_K, b"form 0 0 0 0 0 0 0\nend\n", refused(12, 1)),
+    (b"table 8 8 K\nend\n", b"form 8 8 0 0 0 0 0\nend\n", refused(12, 1)),
+    // No later line is read, and no count.
+    (EXAMPLE_K, b"form 2 2 1 1 2 2 2\n", refused(12, 1)),
+    (EXAMPLE_K, b"form 2 2 1 1 2 2 2\nx", refused(12, 1)),
+    (EXAMPLE_K, b"form 2 2 1 1 2 9 9\nend\nend\n", refused(12, 1)),
+    // The grammar of line 1 comes first.
+    (EXAMPLE_K, b"", refused(11, 1)),
+    (EXAMPLE_K, b"end\n", refused(11, 1)),
+    (EXAMPLE_K, b"form 2 2 1 1 2 2 2", refused(11, 1)),
+    (EXAMPLE_K, b"form 2 2 1 1 2 2\nend\n", refused(11, 1)),
+    (EXAMPLE_K, b"form 2 2 1 1 2 2 x\nend\n", refused(11, 1)),
+    (EXAMPLE_K, b"form 02 2 1 1 2 2 2\nend\n", refused(11, 1)),
+    (EXAMPLE_K, b"form 2 2 - 1 2 2 2\nend\n", refused(11, 1)),
+    (EXAMPLE_K, b"form 2 2 K 1 2 2 2\nend\n", refused(11, 1)),
+    (EXAMPLE_K, b"form 2 2 K NN 2 2\nend\n", refused(11, 1)),
+    (EXAMPLE_K, b"form 2 2 NN 2 2\nterm -- 10\nterm 00 11\nend\n", refused(11, 1)),
+    (EXAMPLE_K, b"form2 2 2 1 1 2 2 2\nend\n", refused(11, 1)),
+    (EXAMPLE_K, EXAMPLE_K, refused(11, 1)),
+    // A `kron` listing, beside its own table too.
+    (EXAMPLE_K, b"kron 2 2 NN 2 2\nterm -- 10\nterm 00 11\nend\n", refused(11, 1)),
+    (EXAMPLE, b"kron 2 2 NN 2 2\nterm -- 10\nterm 00 11\nend\n", refused(11, 1)),
+    (EXAMPLE_K, b"kron 2 2 1 1 2 2 2\nterm -- 10\nterm 00 11\nend\n", refused(11, 1)),
+    (ZERO_K, b"kron 2 1 SS 0 0\nend\n", refused(11, 1)),
+    (ZERO_0, b"kron 2 1 SS 0 0\nend\n", refused(11, 1)),
+    (ZERO_K, b"kron 3 3 SSS 0 0\nend\n", refused(11, 1)),
+    (ZERO_K, b"kron\n", refused(11, 1)),
+    // The table text is judged before the listing.
+    (b"table 9 2 K\nend\n", EXAMPLE_LISTING, refused(2, 1)),
+    (b"table 2 9 K\nend\n", EXAMPLE_LISTING, refused(3, 1)),
+    (b"table 2 2 k\nend\n", EXAMPLE_LISTING, refused(1, 1)),
+    (b"table 2 2 K\non 4 11\nend\n", b"kron 2 2 SS 0 0\nend\n", refused(5, 2)),
+    (b"table 2 2 K\nend\nend\n", b"kron 2 2 SS 0 0\nend\n", refused(6, 3)),
+];
+
 /// Every marked pair.
 pub fn all() -> impl Iterator<Item = MarkedPair> {
-    JUDGED.into_iter().chain(REFUSED_LISTINGS).chain(REFUSED_TABLES)
+    JUDGED.into_iter().chain(REFUSED_LISTINGS).chain(REFUSED_TABLES).chain(KRONECKER)
 }
 
 #[cfg(test)]

@@ -6,7 +6,8 @@ use super::texts::TELLING_BYTES;
 use crate::class::{Expansion, Member, fixed_polarities, mixed_sets};
 use crate::evaluator::places;
 use crate::text::Design;
-use crate::text::listing::{Listing, Product};
+use crate::text::listing::Listing;
+use crate::text::products::Product;
 
 /// Any member of the class.
 pub fn any_member(seeded: &mut Seeded, n: usize, k: usize) -> Member {
@@ -18,7 +19,7 @@ pub fn any_member(seeded: &mut Seeded, n: usize, k: usize) -> Member {
 
 /// Any member of the class, with the coefficients that give the design's table.
 pub fn any_expansion(seeded: &mut Seeded, design: &Design) -> Expansion {
-    let member = any_member(seeded, design.n, design.k);
+    let member = any_member(seeded, design.n, design.k());
     Expansion::giving(design.n, member, &design.table)
 }
 
@@ -29,7 +30,7 @@ pub fn any_listing(seeded: &mut Seeded, design: &Design) -> Listing {
 
 /// The listing of any member with any coefficients, in half of the draws with a literal complemented.
 pub fn drawn_listing(seeded: &mut Seeded, design: &Design) -> Listing {
-    let Design { n, m, k, .. } = *design;
+    let (n, m, k) = (design.n, design.m, design.k());
     let (member, coefficients) = (any_member(seeded, n, k), any_table(seeded, n, m));
     let mut listing = Listing::of(design, &Expansion::new(n, member, coefficients));
     if seeded.once_in(2) {

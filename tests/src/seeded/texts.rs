@@ -5,13 +5,21 @@ use super::tables::any_table;
 use crate::text::Design;
 use std::ops::Range;
 
-/// A design of at most this many inputs, and its text.
+/// A design of at most this many inputs for the block class, and its text.
 pub fn sound_text(seeded: &mut Seeded, most_inputs: usize) -> (Design, Vec<u8>) {
     let n = seeded.within(1, most_inputs);
     let (m, k) = (seeded.within(1, 8), seeded.below(n.min(3) + 1));
-    let design = Design { n, m, k, table: any_table(seeded, n, m) };
+    let design = Design::block(n, m, k, any_table(seeded, n, m));
     let dashed = k == 1 && seeded.once_in(2);
     let text = if dashed { design.text_with("-") } else { design.text() };
+    (design, text)
+}
+
+/// A design of at most this many inputs for the Kronecker expansions, and its text.
+pub fn kronecker_text(seeded: &mut Seeded, most_inputs: usize) -> (Design, Vec<u8>) {
+    let (n, m) = (seeded.within(1, most_inputs), seeded.within(1, 8));
+    let design = Design::kronecker(n, m, any_table(seeded, n, m));
+    let text = design.text();
     (design, text)
 }
 
@@ -23,6 +31,22 @@ pub fn damaged_text(seeded: &mut Seeded, text: &[u8]) -> Vec<u8> {
         damage(seeded, &mut damaged);
     }
     damaged
+}
+
+/// Fields with a `K` in them, or nearly so.
+pub const K_FIELDS: [&str; 12] =
+    ["K", "k", "KK", "K1", "1K", "-K", "K-", "K\t", "\tK", "K ", "J", "L"];
+
+/// A text with one of `K_FIELDS` in a field, or with a byte changed into `K`.
+pub fn with_k_somewhere(seeded: &mut Seeded, text: &[u8]) -> Vec<u8> {
+    let mut changed = text.to_vec();
+    if seeded.once_in(3) {
+        let place = seeded.below(text.len());
+        changed[place] = b'K';
+    } else {
+        edit_lines(seeded, &mut changed, |seeded, lines| change_field(seeded, lines, &K_FIELDS));
+    }
+    changed
 }
 
 /// A text with a line dropped, doubled or moved, cut, with bytes after it, or with carriage returns.
@@ -47,7 +71,9 @@ const DAMAGES: [Damage; 12] = [
     |seeded, text| edit_lines(seeded, text, drop_line),
     |seeded, text| edit_lines(seeded, text, double_line),
     |seeded, text| edit_lines(seeded, text, move_line),
-    |seeded, text| edit_lines(seeded, text, |seeded, lines| change_field(seeded, lines)),
+    |seeded, text| {
+        edit_lines(seeded, text, |seeded, lines| change_field(seeded, lines, &OTHER_FIELDS))
+    },
 ];
 
 /// Where the damages of whole lines and of the end stand.
@@ -132,12 +158,12 @@ const OTHER_FIELDS: [&str; 26] = [
     "-", "--", "+1", "end", "on", "table", "End", "00000000", "11111111", "1\t1",
 ];
 
-/// Puts something else into one field of a line.
-fn change_field(seeded: &mut Seeded, lines: &mut [Vec<u8>]) {
+/// Puts one of `others` into one field of a line.
+fn change_field(seeded: &mut Seeded, lines: &mut [Vec<u8>], others: &[&str]) {
     let place = seeded.below(lines.len());
     let line = lines[place].strip_suffix(b"\n").unwrap_or(&lines[place]);
     let mut fields: Vec<&[u8]> = line.split(|&byte| byte == b'\t').collect();
     let field = seeded.below(fields.len());
-    fields[field] = seeded.pick(&OTHER_FIELDS).as_bytes();
+    fields[field] = seeded.pick(others).as_bytes();
     lines[place] = [fields.join(&b"\t"[..]), b"\n".to_vec()].concat();
 }

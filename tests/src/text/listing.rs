@@ -1,9 +1,11 @@
-//! Listings: written from an expansion, and read back from their own lines.
+//! Listings of the block class, whose first word is `form`: written from an expansion, and read back from
+//! their own lines.
 
-use super::Design;
-use super::fields::{Line, Lines, outputs_field, read_digit, read_number, read_outputs};
+use super::fields::{Line, Lines, read_digit, read_number};
+use super::products::{Product, counted, term_lines, value};
+use super::{Design, Kind};
 use crate::class::{Cost, Expansion};
-use crate::evaluator::{Refusal, complemented, holds, input_value, inputs, number_of, places};
+use crate::evaluator::{Refusal, complemented, holds, inputs, places};
 
 /// `1` for a plain literal of xi, `0` for a complemented one.
 fn literal_character(polarity: usize, i: usize) -> u8 {
@@ -14,39 +16,6 @@ fn literal_character(polarity: usize, i: usize) -> u8 {
 pub fn cube_field(n: usize, t: usize, polarity: usize) -> String {
     let character = |i| if holds(t, i) { literal_character(polarity, i) } else { b'-' };
     inputs(n).rev().map(|i| char::from(character(i))).collect()
-}
-
-/// A `term` line.
-#[derive(Clone, Debug, PartialEq, Eq)]
-pub struct Product {
-    pub cube: Vec<u8>,
-    pub outputs: u8,
-}
-
-impl Product {
-    /// The character that stands for xi.
-    fn character(&self, i: usize) -> u8 {
-        self.cube[self.cube.len() - i]
-    }
-
-    /// The term: the inputs whose character is not `-`.
-    pub fn term(&self) -> usize {
-        number_of(self.cube.len(), |i| self.character(i) != b'-')
-    }
-
-    /// Whether every `1` stands for an input that is 1 at p and every `0` for one that is 0.
-    fn true_at(&self, p: usize) -> bool {
-        inputs(self.cube.len()).all(|i| match self.character(i) {
-            b'1' => input_value(p, i),
-            b'0' => !input_value(p, i),
-            _ => true,
-        })
-    }
-
-    /// The characters other than `-`.
-    fn literals(&self) -> usize {
-        self.cube.iter().filter(|&&character| character != b'-').count()
-    }
 }
 
 /// A listing as its own lines give it.
@@ -65,7 +34,7 @@ pub struct Listing {
 impl Listing {
     /// The listing of an expansion of a design.
     pub fn of(design: &Design, expansion: &Expansion) -> Self {
-        let Design { n, m, k, .. } = *design;
+        let (n, m, k) = (design.n, design.m, design.k());
         let Expansion { member, coefficients, cost } = expansion;
         let product = |t: usize| Product {
             cube: cube_field(n, t, member.polarity(n, t)).into_bytes(),
@@ -85,21 +54,17 @@ impl Listing {
 
     /// All lines.
     pub fn bytes(&self) -> Vec<u8> {
-        let term = |product: &Product| {
-            let outputs = outputs_field(self.m, product.outputs);
-            [b"term\t", &product.cube[..], b"\t", outputs.as_bytes(), b"\n"].concat()
-        };
-        let terms: Vec<u8> = self.products.iter().flat_map(term).collect();
+        let terms = term_lines(self.m, &self.products);
         [self.first_line().as_bytes(), &terms, b"end\n"].concat()
     }
 
-    /// Reads a listing beside the design of its table text. 12, line 1, where n, m or k is not the
-    /// design's, before any later line is read; 11 at the first line that is bad otherwise.
+    /// Reads a listing beside the design of its table text. 12, line 1, where n, m or the kind of k is not
+    /// the design's, before any later line is read; 11 at the first line that is bad otherwise.
     pub fn read(design: &Design, bytes: &[u8]) -> Result<Self, Refusal> {
         let mut lines = Lines::new(bytes);
         let first = next_line(&mut lines)?;
         let mut listing = Listing::read_first(&first).ok_or(first.refusal(11))?;
-        if [listing.n, listing.m, listing.k] != [design.n, design.m, design.k] {
+        if (listing.n, listing.m, Kind::Block(listing.k)) != (design.n, design.m, design.kind) {
             return Err(first.refusal(12));
         }
         loop {
@@ -135,23 +100,19 @@ impl Listing {
 
     /// `term`, cube, outputs, with a term above the one before.
     fn read_term(&self, line: &Line) -> Option<Product> {
-        let [b"term", cube, outputs] = line.fields[..] else { return None };
-        let sound = cube.len() == self.n && cube.iter().all(|byte| b"01-".contains(byte));
-        let outputs = read_outputs(outputs, self.m)?;
-        let product = sound.then(|| Product { cube: cube.to_vec(), outputs })?;
+        let product = Product::read(line, self.n, self.m)?;
         let above = self.products.last().is_none_or(|last| product.term() > last.term());
         above.then_some(product)
     }
 
     /// The exclusive OR of the outputs on the `term` lines whose cube is true at p.
     pub fn value(&self, p: usize) -> u8 {
-        self.products.iter().filter(|product| product.true_at(p)).fold(0, |sum, x| sum ^ x.outputs)
+        value(&self.products, p)
     }
 
     /// The counts that the `term` lines have.
     pub fn counted(&self) -> Cost {
-        let literals = self.products.iter().map(Product::literals).sum();
-        Cost { products: self.products.len(), literals }
+        counted(&self.products)
     }
 }
 
@@ -170,7 +131,7 @@ mod tests {
 
     #[test]
     fn a_listing_is_read_from_its_lines() {
-        let design = Design { n: 2, m: 2, k: 1, table: vec![0; 4] };
+        let design = Design::block(2, 2, 1, vec![0; 4]);
         let written = bytes(b"form 2 2 1 1 2 2 2\nterm -- 10\nterm -0 11\nend\n");
         let listing = Listing::read(&design, &written).expect("a sound listing");
         assert_eq!((0..4).map(|p| listing.value(p)).collect::<Vec<u8>>(), [2, 1, 2, 1]);
