@@ -14,7 +14,7 @@ use Rattle.numbers.proofs.Tests.{only-closed}
 use Rattle.algebra.proofs.Value.{value-ext}
 use Rattle.expansions.specs.Split.{gather, outside, join}
 use Rattle.expansions.specs.Members.{block, Member, Gives}
-use Rattle.expansions.specs.Costs.{products, literals}
+use Rattle.expansions.specs.Costs.{products, literals, NoDearer}
 use Rattle.expansions.proofs.Costs.{charge, charge-parts, charge-member, literals-lt}
 use Rattle.expansions.specs.Least.{LeastThen}
 use Rattle.expansions.specs.Answers.{NotAfter, IsAnswer, Minimal, blockFunction, memberCoefficient, blockCharge, leastPolarity, pairCharge, validPair, leastPair}
@@ -174,7 +174,7 @@ answer-only n k f hn hk M i φ c a =
 -- what comes first costs least
 pub answer-cheapest : (n k : ℕ) (f : ℕ → ℕ) (M i : ℕ) (φ c : ℕ → ℕ) → IsAnswer n k f M i φ c
     → (M′ i′ : ℕ) (φ′ c′ : ℕ → ℕ) → Member n k M′ i′ φ′ → Gives n M′ i′ φ′ c′ f
-    → (products n c ≤ products n c′) × (products n c ≡ products n c′ → literals n c ≤ literals n c′)
+    → NoDearer (products n c) (literals n c) (products n c′) (literals n c′)
 answer-cheapest n k f M i φ c a M′ i′ φ′ c′ member gives =
     let before = a .first M′ i′ φ′ c′ member gives in
     (then-le _ _ before, λ e. then-le _ _ (then-rest _ _ e before))

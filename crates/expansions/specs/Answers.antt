@@ -10,7 +10,7 @@ use Rattle.numbers.specs.Tests.{only}
 use Rattle.algebra.specs.Coefficients.{coefficient}
 use Rattle.expansions.specs.Split.{gather, outside, join}
 use Rattle.expansions.specs.Members.{block, place, Member, Gives}
-use Rattle.expansions.specs.Costs.{counted, products, literals, weight}
+use Rattle.expansions.specs.Costs.{counted, products, literals, weight, NoDearer}
 use Rattle.expansions.specs.Least.{LeastThen, firstLeast, chosen}
 
 -- ---- the answer in document 01's words
@@ -35,7 +35,7 @@ pub record Minimal (n k : ℕ) (f : ℕ → ℕ) (M i : ℕ) (φ c : ℕ → ℕ
   -- every other expansion of the class that gives these outputs, with "any coefficients", costs at least as much: "fewest products, then
   -- fewest literals"
   pub cheapest : (M′ i′ : ℕ) (φ′ c′ : ℕ → ℕ) → Member n k M′ i′ φ′ → Gives n M′ i′ φ′ c′ f
-      → (p ≤ products n c′) × (p ≡ products n c′ → l ≤ literals n c′)
+      → NoDearer p l (products n c′) (literals n c′)
 
 -- ---- the answer as a function
 

@@ -1,5 +1,6 @@
 -- What an expansion of n inputs with the coefficients c costs: its products, its literals, and the two as one number.
-use Prim.Native.Nat.{ℕ, zero, suc, _+_, _^_}
+use mathlib.Core.Path.{_≡_}
+use Prim.Native.Nat.{ℕ, zero, suc, _+_, _^_, _≤_}
 use lib.Count.{ones}
 use Rattle.numbers.specs.Sums.{sumBelow}
 
@@ -19,3 +20,7 @@ literals n c = sumBelow (2 ^ n) (λ t. counted (c t) (ones t))
 -- what a product of l literals weighs: "fewest products, then fewest literals", of which there are fewer than 4,096, as one number
 unfoldable pub weight : ℕ → ℕ
 weight l = 4096 + l
+
+-- p products and l literals cost no more than p′ and l′: "at least as many products, and where as many, at least as many literals"
+abbrev pub NoDearer : (p l p′ l′ : ℕ) → Type 0
+NoDearer p l p′ l′ = (p ≤ p′) × (p ≡ p′ → l ≤ l′)

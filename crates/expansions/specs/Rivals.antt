@@ -1,7 +1,6 @@
 -- Demand 3's rivals, of every kind of k: "every other expansion of the class at that k that gives the same outputs". Document 02, W-202: "Demand 3
 -- holds for `K` too, its rivals all expansions of these 3^n kinds that give the same outputs."
-use mathlib.Core.Path.{_≡_}
-use Prim.Native.Nat.{ℕ, _≤_}
+use Prim.Native.Nat.{ℕ}
 use Rattle.expansions.specs.declared.kinds.Kind.{Kind}
 use Rattle.expansions.specs.declared.kinds.Kind.the-variants.{Block, Kronecker}
 use Rattle.expansions.specs.Members.{Member, Gives}
@@ -13,7 +12,3 @@ use Rattle.expansions.specs.kronecker.Costs.{kroneckerLiterals}
 pub data Rival (n : ℕ) (f : ℕ → ℕ) : Kind → (p l : ℕ) → Type 0 where
   block : (k M i : ℕ) (φ c : ℕ → ℕ) → Member n k M i φ → Gives n M i φ c f → Rival n f (Block k) (products n c) (literals n c)
   kronecker : (letters c : ℕ → ℕ) → IsKind n letters → KroneckerGives n letters c f → Rival n f Kronecker (products n c) (kroneckerLiterals n letters c)
-
--- p products and l literals cost no more than p′ and l′: "at least as many products, and where as many, at least as many literals"
-abbrev pub NoDearer : (p l p′ l′ : ℕ) → Type 0
-NoDearer p l p′ l′ = (p ≤ p′) × (p ≡ p′ → l ≤ l′)

@@ -17,8 +17,7 @@ use Rattle.numbers.specs.Sums.{foldBelow}
 use Rattle.numbers.specs.Tests.{only}
 use Rattle.numbers.proofs.Sums.{fold-ext}
 use Rattle.expansions.specs.declared.kinds.Kind.the-variants as kind
-use Rattle.expansions.specs.Rivals.{NoDearer}
-use Rattle.expansions.specs.Costs.{counted, products}
+use Rattle.expansions.specs.Costs.{counted, products, NoDearer}
 use Rattle.expansions.specs.kronecker.Letters.{Literal, absent, plain, complemented, literalTrue, literalCount, termLiteral, termTrue, kroneckerValue}
 use Rattle.expansions.specs.kronecker.Costs.{termLiterals, kroneckerLiterals}
 use Rattle.expansions.specs.kronecker.Answers.{KroneckerMinimal}

@@ -7,7 +7,7 @@ use Rattle.search.proofs.expansion.Answer.{Answered}
 use Rattle.search.specs.declared.expansion.Expansion.{Expansion}
 use Rattle.expansions.specs.Members.{polarity}
 use Rattle.expansions.specs.declared.kinds.Kind.the-variants.{Block}
-use Rattle.expansions.specs.Rivals.{NoDearer}
+use Rattle.expansions.specs.Costs.{NoDearer}
 use Rattle.expansions.proofs.Costs.{literals-lt}
 use Rattle.expansions.proofs.Rivals.{block-rivals}
 use Rattle.listings.specs.Listing.{numbersOf, listing}

@@ -9,7 +9,8 @@ use lib.ListN.{length, getD}
 use Rattle.numbers.specs.Bits.{bit}
 use Rattle.numbers.specs.Tests.{only}
 use Rattle.expansions.specs.declared.kinds.Kind.{Kind}
-use Rattle.expansions.specs.Rivals.{Rival, NoDearer}
+use Rattle.expansions.specs.Costs.{NoDearer}
+use Rattle.expansions.specs.Rivals.{Rival}
 use Rattle.listings.specs.Parts.{parts, bytes, same, field}
 
 -- ---- the fields of a `term` line

@@ -8,11 +8,11 @@ use native.Mathlib.Decide.{decLt}
 use native.Mathlib.Omega.{arith}
 use lib.Arith.{digits-div, digits-mod}
 use lib.Pow.{pow-pos}
-use Rattle.expansions.specs.Costs.{products}
+use Rattle.expansions.specs.Costs.{products, NoDearer}
 use Rattle.expansions.specs.Least.{LeastThen, chosen}
 use Rattle.expansions.proofs.Least.{then-le, then-rest, then-map, then-antisym, then-digits, IsFirst, chosen-is, firstLeast-ext}
 use Rattle.expansions.proofs.Answers.{only-below, only-above, only-ext}
-use Rattle.expansions.specs.kronecker.Letters.{IsKind, KroneckerGives, lettersOf, kindOf}
+use Rattle.expansions.specs.kronecker.Letters.{IsKind, KroneckerGives, lettersOf, kindNumber}
 use Rattle.expansions.specs.kronecker.Steps.{kroneckerCoefficient}
 use Rattle.expansions.specs.kronecker.Costs.{kroneckerLiterals, kroneckerCharge}
 use Rattle.expansions.specs.kronecker.Answers.{LettersNotAfter, KroneckerNotAfter, IsKroneckerAnswer, KroneckerMinimal}
@@ -68,7 +68,7 @@ module _ (n : ℕ) (f b d : ℕ → ℕ) (kind : IsKind n b) (gives : KroneckerG
       rw (answer-charge n f, kronecker-charge-rival n f b d kind gives)
       (then-map _ _
       (λ o. letters-order n (answerLetters n f) b (answer-kind n f) kind (rw (kind-of-letters n (answerKind n f) (answer-first n f .below)) o))
-      (answer-first n f .first (kindOf n b) (kind-lt n b kind) tt))
+      (answer-first n f .first (kindNumber n b) (kind-lt n b kind) tt))
 
   answer-before : n ≤ 8 → KroneckerNotAfter n (answerLetters n f) (answerCoefficient n f) b d
   answer-before h =
@@ -108,7 +108,7 @@ kronecker-answers-same n f a c b d x y =
     )
 
 pub kronecker-answer-only : (n : ℕ) (f letters c : ℕ → ℕ) → n ≤ 8 → IsKroneckerAnswer n f letters c
-    → (kindOf n letters ≡ answerKind n f) × ((i : ℕ) → i < n → letters i ≡ answerLetters n f i) × ((t : ℕ) → t < 2 ^ n → c t ≡ answerCoefficient n f t)
+    → (kindNumber n letters ≡ answerKind n f) × ((i : ℕ) → i < n → letters i ≡ answerLetters n f i) × ((t : ℕ) → t < 2 ^ n → c t ≡ answerCoefficient n f t)
 kronecker-answer-only n f letters c h a =
     let same = kronecker-answers-same n f letters c (answerLetters n f) (answerCoefficient n f) a (kronecker-answer-is n f h) in (
       kind-ext n letters (answerLetters n f) (same .0) ∙ kind-of-letters n (answerKind n f) (answer-first n f .below),
@@ -119,7 +119,7 @@ kronecker-answer-only n f letters c h a =
 -- ---- nothing is cheaper
 
 pub kronecker-answer-cheapest : (n : ℕ) (f letters c : ℕ → ℕ) → IsKroneckerAnswer n f letters c → (b d : ℕ → ℕ) → IsKind n b → KroneckerGives n b d f
-    → (products n c ≤ products n d) × (products n c ≡ products n d → kroneckerLiterals n letters c ≤ kroneckerLiterals n b d)
+    → NoDearer (products n c) (kroneckerLiterals n letters c) (products n d) (kroneckerLiterals n b d)
 kronecker-answer-cheapest n f letters c a b d kind gives =
     let before = a .first b d kind gives in
     (then-le _ _ before, λ e. then-le _ _ (then-rest _ _ e before))

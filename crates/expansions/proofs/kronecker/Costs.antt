@@ -11,7 +11,7 @@ use Rattle.expansions.specs.Costs.{counted, products, weight}
 use Rattle.expansions.proofs.Counted.{counted-le, counted-weight}
 use Rattle.expansions.proofs.Costs.{sum-le, sum-digits}
 use Rattle.expansions.specs.kronecker.Letters.{Literal, absent, plain, complemented, literalOf, literalCount, termLiteral}
-use Rattle.expansions.specs.kronecker.Letters.{IsKind, KroneckerGives, lettersOf, kindOf}
+use Rattle.expansions.specs.kronecker.Letters.{IsKind, KroneckerGives, lettersOf, kindNumber}
 use Rattle.expansions.specs.kronecker.Steps.{kroneckerCoefficient}
 use Rattle.expansions.specs.kronecker.Costs.{termLiterals, kroneckerLiterals, kroneckerCharge}
 use Rattle.expansions.specs.kronecker.Answers.{kindCharge}
@@ -64,9 +64,9 @@ kronecker-charge-ext n a b c d e f =
     fold-ext _+_ (2 ^ n) _ _ (λ t l. ap₂ (λ (x y : ℕ). counted x (weight y)) (f t l) (term-literals-ext n a b t e))
 
 -- every expansion of a kind that gives f is charged as the kind's number is
-pub kronecker-charge-rival : (n : ℕ) (f b d : ℕ → ℕ) → IsKind n b → KroneckerGives n b d f → kroneckerCharge n b d ≡ kindCharge n f (kindOf n b)
+pub kronecker-charge-rival : (n : ℕ) (f b d : ℕ → ℕ) → IsKind n b → KroneckerGives n b d f → kroneckerCharge n b d ≡ kindCharge n f (kindNumber n b)
 unfolding kindCharge
 kronecker-charge-rival n f b d kind gives =
-    let e : (i : ℕ) → i < n → lettersOf (kindOf n b) i ≡ b i = letters-of-kind n b kind in
-    kronecker-charge-ext n b (lettersOf (kindOf n b)) d (kroneckerCoefficient n (lettersOf (kindOf n b)) f) (λ i l. sym (e i l))
-    (kronecker-coefficient-unique n (lettersOf (kindOf n b)) f d (λ p l. kronecker-value-letters n (lettersOf (kindOf n b)) b d p e ∙ gives p l))
+    let e : (i : ℕ) → i < n → lettersOf (kindNumber n b) i ≡ b i = letters-of-kind n b kind in
+    kronecker-charge-ext n b (lettersOf (kindNumber n b)) d (kroneckerCoefficient n (lettersOf (kindNumber n b)) f) (λ i l. sym (e i l))
+    (kronecker-coefficient-unique n (lettersOf (kindNumber n b)) f d (λ p l. kronecker-value-letters n (lettersOf (kindNumber n b)) b d p e ∙ gives p l))

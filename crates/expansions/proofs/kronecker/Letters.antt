@@ -10,7 +10,7 @@ use lib.Dec.{lit<}
 use lib.Pow.{pow-add}
 use Rattle.expansions.specs.Least.{LeastThen}
 use Rattle.expansions.proofs.Least.{below-one-more, then-digits, then-from, then-map, then-antisym}
-use Rattle.expansions.specs.kronecker.Letters.{IsKind, lettersOf, kindOf}
+use Rattle.expansions.specs.kronecker.Letters.{IsKind, lettersOf, kindNumber}
 use Rattle.expansions.specs.kronecker.Answers.{LettersNotAfter}
 
 pub three-pos : (n : ℕ) → 0 < 3 ^ n
@@ -31,8 +31,8 @@ letters-zero n x i h l =
 
 -- ---- the number of a kind
 
-pub kind-lt : (n : ℕ) (letters : ℕ → ℕ) → IsKind n letters → kindOf n letters < 3 ^ n
-unfolding kindOf
+pub kind-lt : (n : ℕ) (letters : ℕ → ℕ) → IsKind n letters → kindNumber n letters < 3 ^ n
+unfolding kindNumber
 kind-lt zero letters k = omega arith
 kind-lt (suc n) letters k = rw (pow-suc 3 n, mul-comm (3 ^ n) 3) (digits-lt (k n (omega arith)) (kind-lt n letters (λ i l. k i (omega arith))))
 
@@ -52,46 +52,46 @@ unfolding lettersOf
 digit-top n d s h l = rw (digits-div d l) (mod-eq-of-lt h)
 
 -- the letters of a kind's number are the kind's
-pub letters-of-kind : (n : ℕ) (letters : ℕ → ℕ) → IsKind n letters → (i : ℕ) → i < n → lettersOf (kindOf n letters) i ≡ letters i
-unfolding kindOf
+pub letters-of-kind : (n : ℕ) (letters : ℕ → ℕ) → IsKind n letters → (i : ℕ) → i < n → lettersOf (kindNumber n letters) i ≡ letters i
+unfolding kindNumber
 letters-of-kind zero letters k = λ i h. absurd (omega arith)
 letters-of-kind (suc n) letters k =
     let k′ : IsKind n letters = λ i l. k i (omega arith) in
     let ih = letters-of-kind n letters k′ in
-    below-one-more n (λ i. lettersOf (letters n * 3 ^ n + kindOf n letters) i ≡ letters i)
-    (λ i l. digit-low n i (letters n) (kindOf n letters) l ∙ ih i l)
-    (digit-top n (letters n) (kindOf n letters) (k n (omega arith)) (kind-lt n letters k′))
+    below-one-more n (λ i. lettersOf (letters n * 3 ^ n + kindNumber n letters) i ≡ letters i)
+    (λ i l. digit-low n i (letters n) (kindNumber n letters) l ∙ ih i l)
+    (digit-top n (letters n) (kindNumber n letters) (k n (omega arith)) (kind-lt n letters k′))
 
 -- and the number of a number's letters is the number
-pub kind-of-letters : (n x : ℕ) → x < 3 ^ n → kindOf n (lettersOf x) ≡ x
-unfolding kindOf lettersOf
+pub kind-of-letters : (n x : ℕ) → x < 3 ^ n → kindNumber n (lettersOf x) ≡ x
+unfolding kindNumber lettersOf
 kind-of-letters n x h = whole n ∙ mod-eq-of-lt h
   where
-    whole : (n : ℕ) → kindOf n (lettersOf x) ≡ x % 3 ^ n
+    whole : (n : ℕ) → kindNumber n (lettersOf x) ≡ x % 3 ^ n
     whole zero = omega arith
     whole (suc n) =
         ap (λ (y : ℕ). x / 3 ^ n % 3 * 3 ^ n + y) (whole n) ∙ sym (mod-mul x (lit< tt) (three-pos n))
         ∙ ap (λ (y : ℕ). x % y) (mul-comm 3 (3 ^ n) ∙ sym (pow-suc 3 n))
 
-pub kind-ext : (n : ℕ) (a b : ℕ → ℕ) → ((i : ℕ) → i < n → a i ≡ b i) → kindOf n a ≡ kindOf n b
-unfolding kindOf
+pub kind-ext : (n : ℕ) (a b : ℕ → ℕ) → ((i : ℕ) → i < n → a i ≡ b i) → kindNumber n a ≡ kindNumber n b
+unfolding kindNumber
 kind-ext zero a b e = refl
 kind-ext (suc n) a b e = ap₂ (λ (x y : ℕ). x * 3 ^ n + y) (e n (omega arith)) (kind-ext n a b (λ i l. e i (omega arith)))
 
 -- ---- the order
 
 -- the least number has the letters that come first
-pub letters-order : (n : ℕ) (a b : ℕ → ℕ) → IsKind n a → IsKind n b → kindOf n a ≤ kindOf n b → LettersNotAfter n a b
-unfolding kindOf LettersNotAfter
+pub letters-order : (n : ℕ) (a b : ℕ → ℕ) → IsKind n a → IsKind n b → kindNumber n a ≤ kindNumber n b → LettersNotAfter n a b
+unfolding kindNumber LettersNotAfter
 letters-order zero a b ka kb h = tt
 letters-order (suc n) a b ka kb h =
     let ka′ : IsKind n a = λ i l. ka i (omega arith) in
     let kb′ : IsKind n b = λ i l. kb i (omega arith) in
     let ih = letters-order n a b ka′ kb′ in
     then-map (a n) (b n) (λ o. ih (low o))
-    (then-digits (3 ^ n) (a n) (kindOf n a) (b n) (kindOf n b) (kind-lt n a ka′) (kind-lt n b kb′) (then-from _ _ h (λ e. tt)))
+    (then-digits (3 ^ n) (a n) (kindNumber n a) (b n) (kindNumber n b) (kind-lt n a ka′) (kind-lt n b kb′) (then-from _ _ h (λ e. tt)))
   where
-    low : LeastThen (kindOf n a) (kindOf n b) Unit → kindOf n a ≤ kindOf n b
+    low : LeastThen (kindNumber n a) (kindNumber n b) Unit → kindNumber n a ≤ kindNumber n b
     low (inl l) = omega arith
     low (inr e) = omega (arith, e .0)
 

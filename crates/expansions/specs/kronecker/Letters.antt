@@ -69,6 +69,6 @@ unfoldable pub lettersOf : ℕ → ℕ → ℕ
 lettersOf x i = x / 3 ^ i % 3
 
 -- the number of a kind
-unfoldable pub kindOf : ℕ → (ℕ → ℕ) → ℕ
-kindOf zero letters = 0
-kindOf (suc n) letters = letters n * 3 ^ n + kindOf n letters
+unfoldable pub kindNumber : ℕ → (ℕ → ℕ) → ℕ
+kindNumber zero letters = 0
+kindNumber (suc n) letters = letters n * 3 ^ n + kindNumber n letters
