@@ -1,4 +1,4 @@
--- The answer: the function's result is the member of document 01's words (`answer-is`), and the only one (`answer-only`). So every other
+-- The answer of each family: the function's result is the member of the documents' words (`answer-is`), and the only one (`answer-only`). So every other
 -- expansion of the class that gives the table costs at least as much (`answer-cheapest`). Of the table only the points count (`answer-ext`).
 use mathlib.Core.Path.{_≡_, refl, sym, ap, ap₂, _∙_, subst, fun-ext}
 use mathlib.Core.Bool.{Bool, true, false}
@@ -14,8 +14,11 @@ use Rattle.numbers.proofs.Tests.{only-closed}
 use Rattle.algebra.proofs.Value.{value-ext}
 use Rattle.expansions.specs.Split.{gather, outside, join}
 use Rattle.expansions.specs.Members.{block, Member, Gives}
-use Rattle.expansions.specs.Costs.{products, literals, NoDearer}
-use Rattle.expansions.proofs.Costs.{charge, charge-parts, charge-member, literals-lt}
+use Rattle.expansions.specs.declared.families.Family.{Family}
+use Rattle.expansions.specs.Costs.{products, literals}
+use Rattle.expansions.specs.Rules.{NoDearer, ruleOf}
+use Rattle.expansions.proofs.Costs.{charge, charge-cost, charge-tie, charge-member}
+use Rattle.expansions.proofs.Rules.{base}
 use Rattle.expansions.specs.Least.{LeastThen}
 use Rattle.expansions.specs.Answers.{NotAfter, IsAnswer, Minimal, blockFunction, memberCoefficient, blockCharge, leastPolarity, pairCharge, validPair, leastPair}
 use Rattle.expansions.specs.Answers.{answerPair, answerMixed, answerFixed, answerPolarity, answerCoefficient}
@@ -53,104 +56,103 @@ only-ext j N x y e = go (ltb j N) refl
     go true t = e (ltb→lt j N (subst T (sym t) tt))
     go false t = refl
 
-pub answer-polarity : (n k : ℕ) (f : ℕ → ℕ) (j : ℕ) → j < 2 ^ (n - k)
-    → answerPolarity n k f j ≡ leastPolarity k (blockCharge n k f (answerMixed n k f) (answerFixed n k f) j)
+pub answer-polarity : (F : Family) (n k : ℕ) (f : ℕ → ℕ) (j : ℕ) → j < 2 ^ (n - k)
+    → answerPolarity F n k f j ≡ leastPolarity k (blockCharge (ruleOf F) n k f (answerMixed F n k f) (answerFixed F n k f) j)
 unfolding answerPolarity
-answer-polarity n k f j h = only-below j (2 ^ (n - k)) _ h
+answer-polarity F n k f j h = only-below j (2 ^ (n - k)) _ h
 
-pub answer-polarity-zero : (n k : ℕ) (f : ℕ → ℕ) (j : ℕ) → 2 ^ (n - k) ≤ j → answerPolarity n k f j ≡ 0
+pub answer-polarity-zero : (F : Family) (n k : ℕ) (f : ℕ → ℕ) (j : ℕ) → 2 ^ (n - k) ≤ j → answerPolarity F n k f j ≡ 0
 unfolding answerPolarity
-answer-polarity-zero n k f j h = only-above j (2 ^ (n - k)) _ h
+answer-polarity-zero F n k f j h = only-above j (2 ^ (n - k)) _ h
 
-pub answer-coefficient : (n k : ℕ) (f : ℕ → ℕ) (t : ℕ) → t < 2 ^ n
-    → answerCoefficient n k f t ≡ memberCoefficient n k f (answerMixed n k f) (answerFixed n k f) (answerPolarity n k f) t
+pub answer-coefficient : (F : Family) (n k : ℕ) (f : ℕ → ℕ) (t : ℕ) → t < 2 ^ n
+    → answerCoefficient F n k f t ≡ memberCoefficient n k f (answerMixed F n k f) (answerFixed F n k f) (answerPolarity F n k f) t
 unfolding answerCoefficient
-answer-coefficient n k f t h = only-below t (2 ^ n) _ h
+answer-coefficient F n k f t h = only-below t (2 ^ n) _ h
 
-pub answer-coefficient-zero : (n k : ℕ) (f : ℕ → ℕ) (t : ℕ) → 2 ^ n ≤ t → answerCoefficient n k f t ≡ 0
+pub answer-coefficient-zero : (F : Family) (n k : ℕ) (f : ℕ → ℕ) (t : ℕ) → 2 ^ n ≤ t → answerCoefficient F n k f t ≡ 0
 unfolding answerCoefficient
-answer-coefficient-zero n k f t h = only-above t (2 ^ n) _ h
+answer-coefficient-zero F n k f t h = only-above t (2 ^ n) _ h
 
 -- ---- the answer is a member that gives the table
 
-module _ (n k : ℕ) (f : ℕ → ℕ) (hk : k ≤ n) where
+module _ (F : Family) (n k : ℕ) (f : ℕ → ℕ) (hk : k ≤ n) where
   -- there is a valid pair: the k lowest inputs, and no complement
   pub answer-first : IsFirst (2 ^ n * 2 ^ n) (λ x. validPair n k (x / 2 ^ n) (x % 2 ^ n))
-      (λ x. pairCharge n k (blockCharge n k f (x / 2 ^ n) (x % 2 ^ n))) (answerPair n k f)
+      (λ x. pairCharge n k (blockCharge (ruleOf F) n k f (x / 2 ^ n) (x % 2 ^ n))) (answerPair F n k f)
   unfolding answerPair
   answer-first =
       let lowest = lowest-member n k hk in
-      pair-first n k (validPair n k) (blockCharge n k f) (2 ^ k - 1) 0 (lowest .mask) (lowest .fixed)
+      pair-first n k (validPair n k) (blockCharge (ruleOf F) n k f) (2 ^ k - 1) 0 (lowest .mask) (lowest .fixed)
       (valid-from n k (2 ^ k - 1) 0 (lowest .size) (lowest .clear))
 
-  pub answer-member : Member n k (answerMixed n k f) (answerFixed n k f) (answerPolarity n k f)
+  pub answer-member : Member n k (answerMixed F n k f) (answerFixed F n k f) (answerPolarity F n k f)
   unfolding answerMixed answerFixed
   answer-member =
       record {
         mask = div-lt-iff-lt-mul (pow-pos n) .1 (answer-first .below);
-        size = valid-size n k (answerMixed n k f) (answerFixed n k f) (answer-first .fits);
-        fixed = mod-lt (answerPair n k f) (pow-pos n);
-        clear = valid-clear n k (answerMixed n k f) (answerFixed n k f) (answer-first .fits);
-        inner = λ j l. rw (answer-polarity n k f j l) (polarity-first k (blockCharge n k f (answerMixed n k f) (answerFixed n k f) j) .below);
+        size = valid-size n k (answerMixed F n k f) (answerFixed F n k f) (answer-first .fits);
+        fixed = mod-lt (answerPair F n k f) (pow-pos n);
+        clear = valid-clear n k (answerMixed F n k f) (answerFixed F n k f) (answer-first .fits);
+        inner = λ j l. rw (answer-polarity F n k f j l) (polarity-first k (blockCharge (ruleOf F) n k f (answerMixed F n k f) (answerFixed F n k f) j) .below);
       }
 
-  pub answer-gives : Gives n (answerMixed n k f) (answerFixed n k f) (answerPolarity n k f) (answerCoefficient n k f) f
+  pub answer-gives : Gives n (answerMixed F n k f) (answerFixed F n k f) (answerPolarity F n k f) (answerCoefficient F n k f) f
   answer-gives p h =
-      value-ext n _ _ _ p (answer-coefficient n k f) ∙ member-gives n k (answerMixed n k f) (answerFixed n k f) (answerPolarity n k f) answer-member f p h
+      value-ext n _ _ _ p (answer-coefficient F n k f) ∙ member-gives n k (answerMixed F n k f) (answerFixed F n k f) (answerPolarity F n k f) answer-member f p h
 
   -- ---- bounds
 
-  pub answer-polarity-lt : (j : ℕ) → answerPolarity n k f j < 2 ^ k
+  pub answer-polarity-lt : (j : ℕ) → answerPolarity F n k f j < 2 ^ k
   unfolding answerPolarity
   answer-polarity-lt j =
       only-closed (λ x. x < 2 ^ k) (pow-pos k) (ltb j (2 ^ (n - k))) _
-      (polarity-first k (blockCharge n k f (answerMixed n k f) (answerFixed n k f) j) .below)
+      (polarity-first k (blockCharge (ruleOf F) n k f (answerMixed F n k f) (answerFixed F n k f) j) .below)
 
-  pub answer-coefficient-lt : (m : ℕ) → ((p : ℕ) → p < 2 ^ n → f p < 2 ^ m) → (t : ℕ) → answerCoefficient n k f t < 2 ^ m
+  pub answer-coefficient-lt : (m : ℕ) → ((p : ℕ) → p < 2 ^ n → f p < 2 ^ m) → (t : ℕ) → answerCoefficient F n k f t < 2 ^ m
   unfolding answerCoefficient
   answer-coefficient-lt m outputs t =
       only-closed (λ x. x < 2 ^ m) (pow-pos m) (ltb t (2 ^ n)) _
-      (member-lt m n k (answerMixed n k f) (answerFixed n k f) f outputs (answerPolarity n k f) answer-member t)
+      (member-lt m n k (answerMixed F n k f) (answerFixed F n k f) f outputs (answerPolarity F n k f) answer-member t)
 
   -- ---- and comes first
 
-  pub answer-charge : charge n (answerCoefficient n k f) ≡ pairCharge n k (blockCharge n k f (answerMixed n k f) (answerFixed n k f))
+  pub answer-charge : charge (ruleOf F) n (answerCoefficient F n k f) ≡ pairCharge n k (blockCharge (ruleOf F) n k f (answerMixed F n k f) (answerFixed F n k f))
   unfolding pairCharge
   answer-charge =
-      charge-member n k f (answerMixed n k f) (answerFixed n k f) (answerPolarity n k f) (answerCoefficient n k f) answer-member answer-gives
-      ∙ fold-ext _+_ (2 ^ (n - k)) _ _ (λ j l. ap (blockCharge n k f (answerMixed n k f) (answerFixed n k f) j) (answer-polarity n k f j l))
+      charge-member (ruleOf F) n k f (answerMixed F n k f) (answerFixed F n k f) (answerPolarity F n k f) (answerCoefficient F n k f) answer-member answer-gives
+      ∙ fold-ext _+_ (2 ^ (n - k)) _ _ (λ j l. ap (blockCharge (ruleOf F) n k f (answerMixed F n k f) (answerFixed F n k f) j) (answer-polarity F n k f j l))
 
   module _ (M i : ℕ) (φ c : ℕ → ℕ) (member : Member n k M i φ) (gives : Gives n M i φ c f) where
-    by-charge : LeastThen (charge n (answerCoefficient n k f)) (charge n c)
-        (LeastThen (answerMixed n k f) M (LeastThen (answerFixed n k f) i ((j : ℕ) → j < 2 ^ (n - k) → answerPolarity n k f j ≤ φ j)))
+    by-charge : LeastThen (charge (ruleOf F) n (answerCoefficient F n k f)) (charge (ruleOf F) n c)
+        (LeastThen (answerMixed F n k f) M (LeastThen (answerFixed F n k f) i ((j : ℕ) → j < 2 ^ (n - k) → answerPolarity F n k f j ≤ φ j)))
     unfolding answerMixed answerFixed answerPair
     by-charge =
-        rw (answer-charge, charge-member n k f M i φ c member gives)
-        (then-map _ _ (then-map _ _ (then-map _ _ (λ p j l. rw (answer-polarity n k f j l) (p j l))))
-        (pair-minimal n k (validPair n k) (blockCharge n k f) M i (member .mask) (member .fixed) (valid-from n k M i (member .size) (member .clear))
+        rw (answer-charge, charge-member (ruleOf F) n k f M i φ c member gives)
+        (then-map _ _ (then-map _ _ (then-map _ _ (λ p j l. rw (answer-polarity F n k f j l) (p j l))))
+        (pair-minimal n k (validPair n k) (blockCharge (ruleOf F) n k f) M i (member .mask) (member .fixed) (valid-from n k M i (member .size) (member .clear))
         φ (member .inner)))
 
     pub answer-before : n ≤ 8
-        → NotAfter n k (answerMixed n k f) (answerFixed n k f) (answerPolarity n k f) (answerCoefficient n k f) M i φ c
+        → NotAfter F n k (answerMixed F n k f) (answerFixed F n k f) (answerPolarity F n k f) (answerCoefficient F n k f) M i φ c
     answer-before h =
-        then-digits 4096 _ _ _ _ (literals-lt n (answerCoefficient n k f) h) (literals-lt n c h)
-        (rw (← charge-parts n (answerCoefficient n k f), ← charge-parts n c) by-charge)
+        then-digits (base F) _ _ _ _ (charge-tie F n (answerCoefficient F n k f) h) (charge-tie F n c h)
+        (rw (← charge-cost F n (answerCoefficient F n k f) h, ← charge-cost F n c h) by-charge)
 
-pub answer-is : (n k : ℕ) (f : ℕ → ℕ) → n ≤ 8 → k ≤ n
-    → IsAnswer n k f (answerMixed n k f) (answerFixed n k f) (answerPolarity n k f) (answerCoefficient n k f)
-answer-is n k f hn hk =
-    record { member = answer-member n k f hk; gives = answer-gives n k f hk; first = λ M i φ c member gives. answer-before n k f hk M i φ c member gives hn }
+pub answer-is : (F : Family) (n k : ℕ) (f : ℕ → ℕ) → n ≤ 8 → k ≤ n
+    → IsAnswer F n k f (answerMixed F n k f) (answerFixed F n k f) (answerPolarity F n k f) (answerCoefficient F n k f)
+answer-is F n k f hn hk =
+    record { member = answer-member F n k f hk; gives = answer-gives F n k f hk; first = λ M i φ c member gives. answer-before F n k f hk M i φ c member gives hn }
 
 -- ---- it is the only one
 
 -- two answers are one: the same M and i, polarities of blocks and coefficients of terms
-pub answers-same : (n k : ℕ) (f : ℕ → ℕ) (M i : ℕ) (φ c : ℕ → ℕ) (M′ i′ : ℕ) (φ′ c′ : ℕ → ℕ) → IsAnswer n k f M i φ c → IsAnswer n k f M′ i′ φ′ c′
+pub answers-same : (F : Family) (n k : ℕ) (f : ℕ → ℕ) (M i : ℕ) (φ c : ℕ → ℕ) (M′ i′ : ℕ) (φ′ c′ : ℕ → ℕ) → IsAnswer F n k f M i φ c → IsAnswer F n k f M′ i′ φ′ c′
     → (M ≡ M′) × (i ≡ i′) × ((j : ℕ) → j < 2 ^ (n - k) → φ j ≡ φ′ j) × ((t : ℕ) → t < 2 ^ n → c t ≡ c′ t)
-answers-same n k f M i φ c M′ i′ φ′ c′ a b =
-    let byProducts =
-    then-antisym (products n c) (products n c′) (a .first M′ i′ φ′ c′ (b .member) (b .gives)) (b .first M i φ c (a .member) (a .gives)) in
-    let byLiterals = then-antisym (literals n c) (literals n c′) (byProducts .1) (byProducts .2) in
-    let byM = then-antisym M M′ (byLiterals .1) (byLiterals .2) in
+answers-same F n k f M i φ c M′ i′ φ′ c′ a b =
+    let byCost = then-antisym _ _ (a .first M′ i′ φ′ c′ (b .member) (b .gives)) (b .first M i φ c (a .member) (a .gives)) in
+    let byTie = then-antisym _ _ (byCost .1) (byCost .2) in
+    let byM = then-antisym M M′ (byTie .1) (byTie .2) in
     let byI = then-antisym i i′ (byM .1) (byM .2) in
     let polarities : (j : ℕ) → j < 2 ^ (n - k) → φ j ≡ φ′ j = λ j l. le-antisymm (byI .1 j l) (byI .2 j l) in (
       byM .0,
@@ -163,66 +165,66 @@ answers-same n k f M i φ c M′ i′ φ′ c′ a b =
           ∙ sym (member-unique n k M′ i′ φ′ (b .member) f c′ (b .gives) t h),
     )
 
-pub answer-only : (n k : ℕ) (f : ℕ → ℕ) → n ≤ 8 → k ≤ n → (M i : ℕ) (φ c : ℕ → ℕ) → IsAnswer n k f M i φ c
-    → (M ≡ answerMixed n k f) × (i ≡ answerFixed n k f)
-    × ((j : ℕ) → j < 2 ^ (n - k) → φ j ≡ answerPolarity n k f j) × ((t : ℕ) → t < 2 ^ n → c t ≡ answerCoefficient n k f t)
-answer-only n k f hn hk M i φ c a =
-    answers-same n k f M i φ c (answerMixed n k f) (answerFixed n k f) (answerPolarity n k f) (answerCoefficient n k f) a (answer-is n k f hn hk)
+pub answer-only : (F : Family) (n k : ℕ) (f : ℕ → ℕ) → n ≤ 8 → k ≤ n → (M i : ℕ) (φ c : ℕ → ℕ) → IsAnswer F n k f M i φ c
+    → (M ≡ answerMixed F n k f) × (i ≡ answerFixed F n k f)
+    × ((j : ℕ) → j < 2 ^ (n - k) → φ j ≡ answerPolarity F n k f j) × ((t : ℕ) → t < 2 ^ n → c t ≡ answerCoefficient F n k f t)
+answer-only F n k f hn hk M i φ c a =
+    answers-same F n k f M i φ c (answerMixed F n k f) (answerFixed F n k f) (answerPolarity F n k f) (answerCoefficient F n k f) a (answer-is F n k f hn hk)
 
 -- ---- nothing is cheaper
 
 -- what comes first costs least
-pub answer-cheapest : (n k : ℕ) (f : ℕ → ℕ) (M i : ℕ) (φ c : ℕ → ℕ) → IsAnswer n k f M i φ c
+pub answer-cheapest : (F : Family) (n k : ℕ) (f : ℕ → ℕ) (M i : ℕ) (φ c : ℕ → ℕ) → IsAnswer F n k f M i φ c
     → (M′ i′ : ℕ) (φ′ c′ : ℕ → ℕ) → Member n k M′ i′ φ′ → Gives n M′ i′ φ′ c′ f
-    → NoDearer (products n c) (literals n c) (products n c′) (literals n c′)
-answer-cheapest n k f M i φ c a M′ i′ φ′ c′ member gives =
+    → NoDearer F (products n c) (literals n c) (products n c′) (literals n c′)
+answer-cheapest F n k f M i φ c a M′ i′ φ′ c′ member gives =
     let before = a .first M′ i′ φ′ c′ member gives in
     (then-le _ _ before, λ e. then-le _ _ (then-rest _ _ e before))
 
-pub answer-minimal : (n k : ℕ) (f : ℕ → ℕ) → n ≤ 8 → k ≤ n
-    → Minimal n k f (answerMixed n k f) (answerFixed n k f) (answerPolarity n k f) (answerCoefficient n k f)
-    (products n (answerCoefficient n k f)) (literals n (answerCoefficient n k f))
-answer-minimal n k f hn hk =
-    let a = answer-is n k f hn hk in
-    record { answer = a; products-counted = refl; literals-counted = refl; cheapest = answer-cheapest n k f _ _ _ _ a }
+pub answer-minimal : (F : Family) (n k : ℕ) (f : ℕ → ℕ) → n ≤ 8 → k ≤ n
+    → Minimal F n k f (answerMixed F n k f) (answerFixed F n k f) (answerPolarity F n k f) (answerCoefficient F n k f)
+    (products n (answerCoefficient F n k f)) (literals n (answerCoefficient F n k f))
+answer-minimal F n k f hn hk =
+    let a = answer-is F n k f hn hk in
+    record { answer = a; products-counted = refl; literals-counted = refl; cheapest = answer-cheapest F n k f _ _ _ _ a }
 
 -- ---- only the table's values at the points count
 
-module _ (n k : ℕ) (f g : ℕ → ℕ) (e : (p : ℕ) → p < 2 ^ n → f p ≡ g p) where
+module _ (F : Family) (n k : ℕ) (f g : ℕ → ℕ) (e : (p : ℕ) → p < 2 ^ n → f p ≡ g p) where
   blockFunction-ext : (M i j : ℕ) → blockFunction n k f M i j ≡ blockFunction n k g M i j
   unfolding blockFunction
   blockFunction-ext M i j =
       fun-ext (λ s. ap (λ (h : ℕ → ℕ). coefficient (n - k) (gather n (outside n M) i) h j) (fun-ext (λ q. e (join n M q s) (join-lt n M q s))))
 
-  pub blockCharge-ext : (M i j φ : ℕ) → blockCharge n k f M i j φ ≡ blockCharge n k g M i j φ
+  pub blockCharge-ext : (M i j φ : ℕ) → blockCharge (ruleOf F) n k f M i j φ ≡ blockCharge (ruleOf F) n k g M i j φ
   unfolding blockCharge
   blockCharge-ext M i j φ = rw (blockFunction-ext M i j)
 
-  blockCharges-ext : blockCharge n k f ≡ blockCharge n k g
+  blockCharges-ext : blockCharge (ruleOf F) n k f ≡ blockCharge (ruleOf F) n k g
   blockCharges-ext = fun-ext (λ M. fun-ext (λ i. fun-ext (λ j. fun-ext (blockCharge-ext M i j))))
 
-  answerPair-ext : answerPair n k f ≡ answerPair n k g
+  answerPair-ext : answerPair F n k f ≡ answerPair F n k g
   unfolding answerPair
   answerPair-ext = ap (leastPair n k (validPair n k)) blockCharges-ext
 
-  answerMixed-ext : answerMixed n k f ≡ answerMixed n k g
+  answerMixed-ext : answerMixed F n k f ≡ answerMixed F n k g
   unfolding answerMixed
   answerMixed-ext = rw answerPair-ext
 
-  answerFixed-ext : answerFixed n k f ≡ answerFixed n k g
+  answerFixed-ext : answerFixed F n k f ≡ answerFixed F n k g
   unfolding answerFixed
   answerFixed-ext = rw answerPair-ext
 
-  answerPolarity-ext : (j : ℕ) → answerPolarity n k f j ≡ answerPolarity n k g j
+  answerPolarity-ext : (j : ℕ) → answerPolarity F n k f j ≡ answerPolarity F n k g j
   unfolding answerPolarity
   answerPolarity-ext j =
       rw (answerMixed-ext, answerFixed-ext)
       (ap (λ (charge : ℕ → ℕ). only (ltb j (2 ^ (n - k))) (leastPolarity k charge)) (fun-ext (blockCharge-ext _ _ j)))
 
-  answerCoefficient-ext : (t : ℕ) → answerCoefficient n k f t ≡ answerCoefficient n k g t
+  answerCoefficient-ext : (t : ℕ) → answerCoefficient F n k f t ≡ answerCoefficient F n k g t
   unfolding answerCoefficient memberCoefficient
   answerCoefficient-ext t = rw (answerMixed-ext, answerFixed-ext) (simp (answerPolarity-ext, blockFunction-ext))
 
-  pub answer-ext : (answerMixed n k f ≡ answerMixed n k g) × (answerFixed n k f ≡ answerFixed n k g)
-      × ((j : ℕ) → answerPolarity n k f j ≡ answerPolarity n k g j) × ((t : ℕ) → answerCoefficient n k f t ≡ answerCoefficient n k g t)
+  pub answer-ext : (answerMixed F n k f ≡ answerMixed F n k g) × (answerFixed F n k f ≡ answerFixed F n k g)
+      × ((j : ℕ) → answerPolarity F n k f j ≡ answerPolarity F n k g j) × ((t : ℕ) → answerCoefficient F n k f t ≡ answerCoefficient F n k g t)
   answer-ext = (answerMixed-ext, answerFixed-ext, answerPolarity-ext, answerCoefficient-ext)

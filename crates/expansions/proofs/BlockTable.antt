@@ -22,12 +22,15 @@ use Rattle.algebra.proofs.Coefficients.{value-coefficient, coefficient-unique, 
 use Rattle.expansions.specs.Answers.{blockFunction, blockCharge, pairCharge}
 use Rattle.expansions.specs.BlockTable.{entry, blockTable}
 use Rattle.expansions.specs.inner.Planes.{plane}
-use Rattle.expansions.specs.Costs.{counted, weight}
+use Rattle.expansions.specs.Costs.{counted}
+use Rattle.expansions.specs.declared.families.Family.{Family}
+use Rattle.expansions.specs.Rules.{Rule, weight, ruleOf}
 use Rattle.expansions.specs.inner.Charges.{literalCount, byteCharge}
 use Rattle.numbers.proofs.Bits.{bit-lt}
 use Rattle.numbers.proofs.Pack.{pack-ext, pack-lt, pack-bit, pack-bits, bit-ors}
 use Rattle.expansions.proofs.Blocks.{blockFunction-lt}
-use Rattle.expansions.proofs.Counted.{counted-mul, counted-bits, counted-le, weight-le}
+use Rattle.expansions.proofs.Counted.{counted-mul, counted-bits, counted-le}
+use Rattle.expansions.proofs.Rules.{weight-le, rule-small}
 use Rattle.expansions.proofs.Costs.{sum-le}
 use Rattle.expansions.proofs.Minimal.{pairCharge-le}
 use Rattle.expansions.proofs.Charges.{literalCount-ones, byteCharge-outside}
@@ -160,44 +163,46 @@ module _ (m k φ : ℕ) (g : ℕ → ℕ) (few : k ≤ 3) (polarity : φ < 2 ^ k
   used-counted t x h = counted-mul (coefficient k φ g t) x ∙ ap (λ (y : ℕ). y * x) (sym (used-bit t h))
 
   -- what a block's terms are charged, where each has as many literals more outside the block
-  pub used-sum : (outside : ℕ) → sumBelow (2 ^ k) (λ r. counted (coefficient k φ g r) (weight (outside + ones r)))
-      ≡ sumBelow 8 (λ t. bit t (used m k φ g) * weight (outside + literalCount t))
-  used-sum outside =
-      let charged : ℕ → ℕ → ℕ = λ t l. bit t (used m k φ g) * weight (outside + l) in
+  pub used-sum : (R : Rule) (outside : ℕ) → sumBelow (2 ^ k) (λ r. counted (coefficient k φ g r) (weight R (outside + ones r)))
+      ≡ sumBelow 8 (λ t. bit t (used m k φ g) * weight R (outside + literalCount t))
+  used-sum R outside =
+      let charged : ℕ → ℕ → ℕ = λ t l. bit t (used m k φ g) * weight R (outside + l) in
       let e : 2 ^ k + (8 - 2 ^ k) ≡ 8 = omega (arith, places) in
       fold-ext _+_ (2 ^ k) _ (λ t. charged t (literalCount t))
-      (λ t l. used-counted t (weight (outside + ones t)) l ∙ ap (charged t) (sym (literalCount-ones t (omega (arith, places)))))
+      (λ t l. used-counted t (weight R (outside + ones t)) l ∙ ap (charged t) (sym (literalCount-ones t (omega (arith, places)))))
       ∙ sym (sum-past (2 ^ k) (8 - 2 ^ k) (λ t. charged t (literalCount t))
-      (λ t l h. ap (λ (x : ℕ). x * weight (outside + literalCount t)) (used-missing t l (omega arith)) ∙ zero-mul (weight (outside + literalCount t))))
+      (λ t l h. ap (λ (x : ℕ). x * weight R (outside + literalCount t)) (used-missing t l (omega arith)) ∙ zero-mul (weight R (outside + literalCount t))))
       ∙ ap (λ (N : ℕ). sumBelow N (λ t. charged t (literalCount t))) e
 
   -- by the charge of one byte and its number of bits
-  pub used-charge : (outside : ℕ) → sumBelow (2 ^ k) (λ r. counted (coefficient k φ g r) (weight (outside + ones r)))
-      ≡ byteCharge (used m k φ g) + outside * ones (used m k φ g)
-  used-charge outside = used-sum outside ∙ byteCharge-outside outside (used m k φ g) (used-lt m k φ g (omega (arith, places)))
+  pub used-charge : (R : Rule) (outside : ℕ) → sumBelow (2 ^ k) (λ r. counted (coefficient k φ g r) (weight R (outside + ones r)))
+      ≡ byteCharge R (used m k φ g) + outside * R .literal * ones (used m k φ g)
+  used-charge R outside = used-sum R outside ∙ byteCharge-outside R outside (used m k φ g) (used-lt m k φ g (omega (arith, places)))
 
 -- what a block of a member costs, by the byte of its terms
-pub blockCharge-byte : (m n k : ℕ) (f : ℕ → ℕ) (M i j φ : ℕ) → k ≤ 3 → φ < 2 ^ k → onesIn n M ≡ k → ((p : ℕ) → p < 2 ^ n → f p < 2 ^ m)
-    → blockCharge n k f M i j φ ≡ byteCharge (used m k φ (blockFunction n k f M i j)) + ones j * ones (used m k φ (blockFunction n k f M i j))
+pub blockCharge-byte : (R : Rule) (m n k : ℕ) (f : ℕ → ℕ) (M i j φ : ℕ) → k ≤ 3 → φ < 2 ^ k → onesIn n M ≡ k → ((p : ℕ) → p < 2 ^ n → f p < 2 ^ m)
+    → blockCharge R n k f M i j φ ≡ byteCharge R (used m k φ (blockFunction n k f M i j)) + ones j * R .literal * ones (used m k φ (blockFunction n k f M i j))
 unfolding blockCharge
-blockCharge-byte m n k f M i j φ few polarity size outputs =
-    used-charge m k φ (blockFunction n k f M i j) few polarity (λ p l. blockFunction-lt m n k M i f outputs size j p) (ones j)
+blockCharge-byte R m n k f M i j φ few polarity size outputs =
+    used-charge m k φ (blockFunction n k f M i j) few polarity (λ p l. blockFunction-lt m n k M i f outputs size j p) R (ones j)
 
 -- ---- bounds
 
 -- each of the 2 ^ k terms of a block has at most n literals
-blockCharge-le : (n k : ℕ) (f : ℕ → ℕ) (M i j φ : ℕ) → k ≤ n → j < 2 ^ (n - k) → blockCharge n k f M i j φ ≤ 2 ^ k * weight n
+blockCharge-le : (R : Rule) (n k : ℕ) (f : ℕ → ℕ) (M i j φ : ℕ) → k ≤ n → j < 2 ^ (n - k) → blockCharge R n k f M i j φ ≤ 2 ^ k * weight R n
 unfolding blockCharge
-blockCharge-le n k f M i j φ hk h =
-    sum-le (2 ^ k) (weight n) _
-    (λ r l. counted-le (coefficient k φ (blockFunction n k f M i j) r) (weight (ones j + ones r)) (weight n)
-    (weight-le (ones j + ones r) n (omega (arith, ones-le (n - k) j h, ones-le k r l))))
+blockCharge-le R n k f M i j φ hk h =
+    sum-le (2 ^ k) (weight R n) _
+    (λ r l. counted-le (coefficient k φ (blockFunction n k f M i j) r) (weight R (ones j + ones r)) (weight R n)
+    (weight-le R (ones j + ones r) n (omega (arith, ones-le (n - k) j h, ones-le k r l))))
 
 -- and so the charge of a pair is small
-pub pairCharge-small : (n k : ℕ) (f : ℕ → ℕ) (M i : ℕ) → n ≤ 8 → k ≤ 3 → k ≤ n → pairCharge n k (blockCharge n k f M i) < 2 ^ 31
-unfolding weight
-pairCharge-small n k f M i hn hk within =
-    let blocks = pairCharge-le n k (2 ^ k * weight n) (blockCharge n k f M i) (λ j φ h l. blockCharge-le n k f M i j φ within h) in
-    let places : 2 ^ k * weight n ≤ 2 ^ 3 * weight 8 = mul-le-mul (pow-mono hk) (weight-le n 8 hn) in
-    let most : 2 ^ (n - k) * (2 ^ k * weight n) ≤ 2 ^ 8 * (2 ^ 3 * weight 8) = mul-le-mul (pow-mono {j = 8} (omega arith)) places in
+pub pairCharge-small : (F : Family) (n k : ℕ) (f : ℕ → ℕ) (M i : ℕ) → n ≤ 8 → k ≤ 3 → k ≤ n
+    → pairCharge n k (blockCharge (ruleOf F) n k f M i) < 2 ^ 31
+pairCharge-small F n k f M i hn hk within =
+    let R : Rule = ruleOf F in
+    let blocks = pairCharge-le n k (2 ^ k * weight R n) (blockCharge R n k f M i) (λ j φ h l. blockCharge-le R n k f M i j φ within h) in
+    let product : weight R n ≤ 8192 = omega (arith, weight-le R n 11 (omega arith), rule-small F) in
+    let places : 2 ^ k * weight R n ≤ 2 ^ 3 * 8192 = mul-le-mul (pow-mono hk) product in
+    let most : 2 ^ (n - k) * (2 ^ k * weight R n) ≤ 2 ^ 8 * (2 ^ 3 * 8192) = mul-le-mul (pow-mono {j = 8} (omega arith)) places in
     omega arith

@@ -1,25 +1,28 @@
--- What an expansion costs. Its charge is its products and its literals as one number (`charge-parts`), for there are fewer than 4,096
--- literals (`literals-lt`); and the charge of a member is the sum of its blocks' charges (`charge-blocks`).
+-- What an expansion costs. Its charge under a rule is its products and its literals, each times its weight (`charge-parts`); under a family's rule they
+-- are had back from it (`charge-products`, `charge-literals`), for there are fewer than 4,096 literals (`literals-lt`). The charge of a member is the
+-- sum of its blocks' charges (`charge-blocks`).
 use mathlib.Core.Path.{_≡_, refl, sym, ap, _∙_}
-use Prim.Native.Nat.{ℕ, zero, suc, _+_, _-_, _*_, _/_, _%_, _^_, _≤_, _<_}
+use Prim.Native.Nat.{ℕ, zero, suc, _+_, _-_, _*_, _^_, _≤_, _<_}
 use native.Mathlib.Nat.{mul-le-mul, mul-suc, pow-suc, zero-mul, zero-add, add-mul, add-assoc, add-comm, add-zero}
 use native.Mathlib.Omega.{arith}
 use lib.Count.{onesIn, ones}
-use lib.Arith.{digits-div, digits-mod}
 use lib.Pow.{pow-mono}
 use Rattle.numbers.specs.Sums.{foldBelow, sumBelow}
 use Rattle.algebra.specs.Coefficients.{coefficient}
 use Rattle.numbers.proofs.Sums.{fold-zero, fold-ext, fold-map, fold-op, fold-split}
 use Rattle.expansions.specs.Members.{block, place, Member, Gives}
-use Rattle.expansions.specs.Costs.{counted, products, literals, weight}
+use Rattle.expansions.specs.declared.families.Family.{Family}
+use Rattle.expansions.specs.Costs.{counted, products, literals}
+use Rattle.expansions.specs.Rules.{costOf, tieOf, Rule, weight, ruleOf}
 use Rattle.expansions.specs.Answers.{blockFunction, blockCharge, memberCoefficient}
 use Rattle.expansions.proofs.Split.{ones-others, sums}
-use Rattle.expansions.proofs.Counted.{counted-le, counted-weight}
+use Rattle.expansions.proofs.Counted.{counted-le}
+use Rattle.expansions.proofs.Rules.{counted-weight, base, rule-cost, tie-lt, rule-products, rule-literals}
 use Rattle.expansions.proofs.Blocks.{ones-digit, ones-parts, member-unique}
 
--- the products' weights, summed: products * 4096 + literals (`charge-parts`)
-unfoldable pub charge : ℕ → (ℕ → ℕ) → ℕ
-charge n c = sumBelow (2 ^ n) (λ t. counted (c t) (weight (ones t)))
+-- the products' weights under a rule, summed
+unfoldable pub charge : Rule → ℕ → (ℕ → ℕ) → ℕ
+charge R n c = sumBelow (2 ^ n) (λ t. counted (c t) (weight R (ones t)))
 
 -- ---- sums of counted numbers
 
@@ -36,10 +39,19 @@ sum-constant (suc N) b = omega (arith, sum-constant N b)
 pub sum-le : (N b : ℕ) (g : ℕ → ℕ) → ((t : ℕ) → t < N → g t ≤ b) → sumBelow N g ≤ N * b
 sum-le N b g h = omega (arith, sum-mono N g (λ t. b) h, sum-constant N b)
 
+pub sum-scaled : (N B : ℕ) (g : ℕ → ℕ) → sumBelow N (λ t. g t * B) ≡ sumBelow N g * B
+sum-scaled N B g = sym (fold-map _+_ (λ x. x * B) (zero-mul B) (λ a b. add-mul a b B) N g)
+
 pub sum-digits : (N B : ℕ) (g h : ℕ → ℕ) → sumBelow N (λ t. g t * B + h t) ≡ sumBelow N g * B + sumBelow N h
-sum-digits N B g h =
-    fold-op _+_ add-assoc add-comm add-zero N (λ t. g t * B) h
-    ∙ ap (λ (x : ℕ). x + sumBelow N h) (sym (fold-map _+_ (λ x. x * B) (zero-mul B) (λ a b. add-mul a b B) N g))
+sum-digits N B g h = fold-op _+_ add-assoc add-comm add-zero N (λ t. g t * B) h ∙ ap (λ (x : ℕ). x + sumBelow N h) (sum-scaled N B g)
+
+-- the weights of the terms, of which the term t has l t literals
+pub sum-weights : (R : Rule) (N : ℕ) (c l : ℕ → ℕ) → sumBelow N (λ t. counted (c t) (weight R (l t)))
+    ≡ sumBelow N (λ t. counted (c t) 1) * R .product + sumBelow N (λ t. counted (c t) (l t)) * R .literal
+sum-weights R N c l =
+    fold-ext _+_ N _ _ (λ t h. counted-weight R (c t) (l t))
+    ∙ sum-digits N (R .product) (λ t. counted (c t) 1) (λ t. counted (c t) (l t) * R .literal)
+    ∙ ap (λ (x : ℕ). sumBelow N (λ t. counted (c t) 1) * R .product + x) (sum-scaled N (R .literal) (λ t. counted (c t) (l t)))
 
 -- only the coefficients below 2 ^ n count
 counted-ext : (n : ℕ) (x c d : ℕ → ℕ) → ((t : ℕ) → t < 2 ^ n → c t ≡ d t)
@@ -89,35 +101,47 @@ literals-lt n c h = omega (arith, literals-le n c, mul-le-mul (pow-mono h) h)
 
 -- ---- the charge
 
-pub charge-parts : (n : ℕ) (c : ℕ → ℕ) → charge n c ≡ products n c * 4096 + literals n c
+pub charge-parts : (R : Rule) (n : ℕ) (c : ℕ → ℕ) → charge R n c ≡ products n c * R .product + literals n c * R .literal
 unfolding charge products literals
-charge-parts n c = simp counted-weight (sum-digits (2 ^ n) 4096 (λ t. counted (c t) 1) (λ t. counted (c t) (ones t)))
+charge-parts R n c = sum-weights R (2 ^ n) c ones
 
-pub charge-products : (n : ℕ) (c : ℕ → ℕ) → n ≤ 8 → charge n c / 4096 ≡ products n c
-charge-products n c h = rw (charge-parts n c) (digits-div (products n c) (literals-lt n c h))
+module _ (F : Family) (n : ℕ) (c : ℕ → ℕ) (h : n ≤ 8) where
+  few : products n c ≤ 256
+  few = omega (arith, products-le n c, pow-mono h)
 
-pub charge-literals : (n : ℕ) (c : ℕ → ℕ) → n ≤ 8 → charge n c % 4096 ≡ literals n c
-charge-literals n c h = rw (charge-parts n c) (digits-mod (products n c) (literals-lt n c h))
+  -- what the family compares first, and what then, as one number
+  pub charge-cost : charge (ruleOf F) n c ≡ costOf F (products n c) (literals n c) * base F + tieOf F (products n c) (literals n c)
+  charge-cost = charge-parts (ruleOf F) n c ∙ rule-cost F (products n c) (literals n c)
 
-pub charge-ext : (n : ℕ) (c d : ℕ → ℕ) → ((t : ℕ) → t < 2 ^ n → c t ≡ d t) → charge n c ≡ charge n d
-unfolding charge
-charge-ext n c d e = counted-ext n (λ t. weight (ones t)) c d e
+  pub charge-tie : tieOf F (products n c) (literals n c) < base F
+  charge-tie = tie-lt F (products n c) (literals n c) few (literals-lt n c h)
 
--- the charge of the member's coefficients, by blocks
-pub charge-blocks : (n k : ℕ) (f : ℕ → ℕ) (M i : ℕ) (φ : ℕ → ℕ) → onesIn n M ≡ k
-    → charge n (memberCoefficient n k f M i φ) ≡ sumBelow (2 ^ (n - k)) (λ j. blockCharge n k f M i j (φ j))
-unfolding charge memberCoefficient blockCharge
-charge-blocks n k f M i φ size =
-    fold-ext _+_ (2 ^ n) _ (λ t. summand (block n M t) (place n M t))
-    (λ t h. ap (λ (l : ℕ). counted (memberCoefficient n k f M i φ t) (weight l)) (ones-parts n M t h))
-    ∙ sums _+_ add-assoc add-comm add-zero n M summand
-    ∙ rw (ones-others n k M size, size)
-  where
-    summand : ℕ → ℕ → ℕ
-    summand j r = counted (coefficient k (φ j) (blockFunction n k f M i j) r) (weight (ones j + ones r))
+  pub charge-products : ruleOf F .productsIn (charge (ruleOf F) n c) ≡ products n c
+  charge-products = ap (ruleOf F .productsIn) (charge-parts (ruleOf F) n c) ∙ rule-products F (products n c) (literals n c) few (literals-lt n c h)
 
--- and so that of every expansion of the member's terms that gives f
-pub charge-member : (n k : ℕ) (f : ℕ → ℕ) (M i : ℕ) (φ c : ℕ → ℕ) → Member n k M i φ → Gives n M i φ c f
-    → charge n c ≡ sumBelow (2 ^ (n - k)) (λ j. blockCharge n k f M i j (φ j))
-charge-member n k f M i φ c member gives =
-    charge-ext n c (memberCoefficient n k f M i φ) (member-unique n k M i φ member f c gives) ∙ charge-blocks n k f M i φ (member .size)
+  pub charge-literals : ruleOf F .literalsIn (charge (ruleOf F) n c) ≡ literals n c
+  charge-literals = ap (ruleOf F .literalsIn) (charge-parts (ruleOf F) n c) ∙ rule-literals F (products n c) (literals n c) few (literals-lt n c h)
+
+module _ (R : Rule) where
+  pub charge-ext : (n : ℕ) (c d : ℕ → ℕ) → ((t : ℕ) → t < 2 ^ n → c t ≡ d t) → charge R n c ≡ charge R n d
+  unfolding charge
+  charge-ext n c d e = counted-ext n (λ t. weight R (ones t)) c d e
+
+  -- the charge of the member's coefficients, by blocks
+  pub charge-blocks : (n k : ℕ) (f : ℕ → ℕ) (M i : ℕ) (φ : ℕ → ℕ) → onesIn n M ≡ k
+      → charge R n (memberCoefficient n k f M i φ) ≡ sumBelow (2 ^ (n - k)) (λ j. blockCharge R n k f M i j (φ j))
+  unfolding charge memberCoefficient blockCharge
+  charge-blocks n k f M i φ size =
+      fold-ext _+_ (2 ^ n) _ (λ t. summand (block n M t) (place n M t))
+      (λ t h. ap (λ (l : ℕ). counted (memberCoefficient n k f M i φ t) (weight R l)) (ones-parts n M t h))
+      ∙ sums _+_ add-assoc add-comm add-zero n M summand
+      ∙ rw (ones-others n k M size, size)
+    where
+      summand : ℕ → ℕ → ℕ
+      summand j r = counted (coefficient k (φ j) (blockFunction n k f M i j) r) (weight R (ones j + ones r))
+
+  -- and so that of every expansion of the member's terms that gives f
+  pub charge-member : (n k : ℕ) (f : ℕ → ℕ) (M i : ℕ) (φ c : ℕ → ℕ) → Member n k M i φ → Gives n M i φ c f
+      → charge R n c ≡ sumBelow (2 ^ (n - k)) (λ j. blockCharge R n k f M i j (φ j))
+  charge-member n k f M i φ c member gives =
+      charge-ext n c (memberCoefficient n k f M i φ) (member-unique n k M i φ member f c gives) ∙ charge-blocks n k f M i φ (member .size)

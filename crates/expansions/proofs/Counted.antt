@@ -1,5 +1,4 @@
--- What one term counts: once, whatever outputs it has (`counted-bits`), and by its weight, in which each literal counts one
--- (`weight-more`).
+-- What one term counts: once, whatever outputs it has (`counted-bits`).
 use mathlib.Core.Path.{_≡_, refl, sym, ap, _∙_}
 use Prim.Native.Nat.{ℕ, zero, suc, _+_, _*_, _%_, _^_, _≤_, _<_, max}
 use native.Mathlib.Nat.{zero-mul, one-mul, mod-one}
@@ -8,7 +7,7 @@ use native.Mathlib.Omega.{arith}
 use lib.Pow.{pow-pos, mod-pow-add}
 use Rattle.numbers.specs.Sums.{foldBelow}
 use Rattle.numbers.specs.Bits.{bit}
-use Rattle.expansions.specs.Costs.{counted, weight}
+use Rattle.expansions.specs.Costs.{counted}
 use Rattle.numbers.proofs.Bits.{bit-lt}
 
 -- ---- counted
@@ -50,19 +49,3 @@ counted-bits zero x = sym (ap (λ (y : ℕ). counted y 1) (mod-one x))
 counted-bits (suc m) x =
     ap (λ (y : ℕ). max y (bit m x)) (counted-bits m x) ∙ counted-digit m (bit m x) (x % 2 ^ m) (bit-lt m x)
     ∙ ap (λ (y : ℕ). counted y 1) (sym (mod-pow-add x 1 m)) ∙ ap (λ (y : ℕ). counted (x % 2 ^ y) 1) (one-add m)
-
--- ---- weight
-
-pub counted-weight : (c l : ℕ) → counted c (weight l) ≡ counted c 1 * 4096 + counted c l
-unfolding counted weight
-counted-weight zero l = refl
-counted-weight (suc c) l = omega arith
-
--- each literal more weighs one more
-pub weight-more : (more l : ℕ) → weight (more + l) ≡ weight l + more
-unfolding weight
-weight-more more l = omega arith
-
-pub weight-le : (l most : ℕ) → l ≤ most → weight l ≤ weight most
-unfolding weight
-weight-le l most h = omega arith

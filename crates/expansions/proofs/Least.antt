@@ -100,15 +100,17 @@ pub first-unique : (N : ℕ) (valid : ℕ → Bool) (charge : ℕ → ℕ) (a b 
 first-unique N valid charge a b x y =
     let d = then-antisym (charge a) (charge b) (x .first b (y .below) (y .fits)) (y .first a (x .below) (x .fits)) in omega (arith, d .1, d .2)
 
--- the first one stays first by charges put through a strictly increasing map
-pub first-map : (N : ℕ) (valid : ℕ → Bool) (charge f : ℕ → ℕ) (b : ℕ) → ((x y : ℕ) → x < y → f x < f y)
-    → IsFirst N valid charge b → IsFirst N valid (λ i. f (charge i)) b
-first-map N valid charge f b mono x =
-    record { below = x .below; fits = x .fits; first = λ i l t. go (charge b) (charge i) (x .first i l t) }
+-- the first one stays first by other charges that order the indices alike
+pub first-alike : (N : ℕ) (valid : ℕ → Bool) (charge other : ℕ → ℕ) (b : ℕ)
+    → ((i j : ℕ) → i < N → j < N → charge i < charge j → other i < other j)
+    → ((i j : ℕ) → i < N → j < N → charge i ≡ charge j → other i ≡ other j)
+    → IsFirst N valid charge b → IsFirst N valid other b
+first-alike N valid charge other b less equal x =
+    record { below = x .below; fits = x .fits; first = λ i l t. go i l (x .first i l t) }
   where
-    go : {P : Type 0} (c d : ℕ) → LeastThen c d P → LeastThen (f c) (f d) P
-    go c d (inl h) = inl (mono c d h)
-    go c d (inr h) = inr (ap f (h .0), h .1)
+    go : (i : ℕ) → i < N → LeastThen (charge b) (charge i) (b ≤ i) → LeastThen (other b) (other i) (b ≤ i)
+    go i l (inl h) = inl (less b i (x .below) l h)
+    go i l (inr h) = inr (equal b i (x .below) l (h .0), h .1)
 
 -- a first one, or no valid index
 abbrev pub Found : ℕ → (ℕ → Bool) → (ℕ → ℕ) → Best → Type 0

@@ -6,6 +6,7 @@ pub mod Blocks
 pub mod Polarities
 pub mod Lowest
 pub mod Counted
+pub mod Rules
 pub mod Costs
 pub mod Minimal
 pub mod Answers

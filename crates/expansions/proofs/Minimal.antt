@@ -11,7 +11,7 @@ use Rattle.numbers.specs.Sums.{sumBelow}
 use Rattle.numbers.proofs.Sums.{fold-ext}
 use Rattle.expansions.specs.Least.{LeastThen, chosen}
 use Rattle.expansions.specs.Answers.{leastPolarity, pairCharge, leastPair}
-use Rattle.expansions.proofs.Least.{then-map, then-sum, then-chain, then-digits, IsFirst, first-unique, first-map, chosen-is, firstLeast-ext}
+use Rattle.expansions.proofs.Least.{then-map, then-sum, then-chain, then-digits, IsFirst, first-unique, first-alike, chosen-is, firstLeast-ext}
 use Rattle.expansions.proofs.Costs.{sum-le}
 
 -- every polarity below 2 ^ k may be chosen, and there is one
@@ -70,10 +70,13 @@ pub leastPolarity-ext : (k : ℕ) (charge other : ℕ → ℕ) → ((φ : ℕ) �
 unfolding leastPolarity
 leastPolarity-ext k charge other e = ap chosen (firstLeast-ext (2 ^ k) (λ φ. true) charge other e)
 
--- charges put through a strictly increasing map keep their first least
-pub leastPolarity-map : (k : ℕ) (charge f : ℕ → ℕ) → ((a b : ℕ) → a < b → f a < f b) → leastPolarity k (λ φ. f (charge φ)) ≡ leastPolarity k charge
-leastPolarity-map k charge f mono =
-    first-unique (2 ^ k) (λ φ. true) (λ φ. f (charge φ)) _ _ (polarity-first k (λ φ. f (charge φ))) (first-map (2 ^ k) (λ φ. true) charge f _ mono (polarity-first k charge))
+-- charges that order the polarities alike have the same first least
+pub leastPolarity-alike : (k : ℕ) (charge other : ℕ → ℕ)
+    → ((φ ψ : ℕ) → φ < 2 ^ k → ψ < 2 ^ k → charge φ < charge ψ → other φ < other ψ)
+    → ((φ ψ : ℕ) → φ < 2 ^ k → ψ < 2 ^ k → charge φ ≡ charge ψ → other φ ≡ other ψ)
+    → leastPolarity k charge ≡ leastPolarity k other
+leastPolarity-alike k charge other less equal =
+    first-unique (2 ^ k) (λ φ. true) other _ _ (first-alike (2 ^ k) (λ φ. true) charge other _ less equal (polarity-first k charge)) (polarity-first k other)
 
 pub pairCharge-ext : (n k : ℕ) (charge other : ℕ → ℕ → ℕ) → ((j φ : ℕ) → j < 2 ^ (n - k) → φ < 2 ^ k → charge j φ ≡ other j φ)
     → pairCharge n k charge ≡ pairCharge n k other

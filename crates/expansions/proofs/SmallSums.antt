@@ -1,9 +1,10 @@
 -- A small sum, 16 for each product of a byte of terms and 1 for each literal, is at most 140 (`smallSum-le`) and stands for the byte's charge
--- with any literals outside the mixed set (`usedCharge-sum`). A lesser sum stands for a lesser charge (`sumCharge-lt`), so the first least of
--- the polarities by their small sums is the first least by their charges (`leastPolarity-sums`).
-use mathlib.Core.Path.{_≡_, refl, sym, ap, _∙_}
+-- under any rule, with any literals outside the mixed set (`usedCharge-sum`). A byte of fewer products has at most four literals more
+-- (`literals-apart`), so that under a rule by which a product weighs more than four literals a lesser sum stands for a lesser charge
+-- (`usedCharge-lt`), and the first least of the polarities by their small sums is the first least by their charges (`leastPolarity-sums`).
+use mathlib.Core.Path.{_≡_, refl, sym, ap, ap₂, _∙_}
 use Prim.Native.Nat.{ℕ, zero, suc, _+_, _*_, _/_, _%_, _^_, _≤_, _<_}
-use native.Mathlib.Nat.{mul-add, mul-comm, mul-le-mul, mul-le-mul-right, suc-mul, one-mul, le-of-suc-le-suc}
+use native.Mathlib.Nat.{mul-add, add-mul, mul-assoc, mul-comm, mul-le-mul, mul-le-mul-right, suc-mul, one-mul, le-of-suc-le-suc}
 use native.Mathlib.Decide.{decLt}
 use native.Mathlib.Omega.{arith}
 use lib.Arith.{digits-div, digits-mod}
@@ -13,11 +14,12 @@ use Rattle.numbers.specs.Bits.{bit}
 use Rattle.numbers.proofs.Sums.{fold-ext}
 use Rattle.numbers.proofs.Bits.{bit-lt}
 use Rattle.numbers.proofs.Pack.{ones-bits}
-use Rattle.expansions.specs.Costs.{weight}
+use Rattle.expansions.specs.Rules.{Rule, weight}
 use Rattle.expansions.specs.Answers.{leastPolarity}
 use Rattle.expansions.specs.inner.Charges.{literalCounts, literalCount, byteCharge, usedCharge, sumTo, smallSum, sumCharge}
-use Rattle.expansions.proofs.Costs.{sum-mono, sum-digits}
-use Rattle.expansions.proofs.Minimal.{polarity-first, leastPolarity-ext, leastPolarity-map}
+use Rattle.expansions.proofs.Costs.{sum-mono, sum-scaled, sum-digits}
+use Rattle.expansions.proofs.Minimal.{polarity-first, leastPolarity-alike}
+use Rattle.expansions.proofs.Rules.{Steep, weight-product}
 use Rattle.expansions.proofs.Charges.{literalCount-le}
 
 -- ---- term by term
@@ -63,40 +65,76 @@ smallSum-parts : (u : ℕ) → u < 2 ^ 8 → smallSum u ≡ ones u * 16 + litera
 unfolding sumTo
 smallSum-parts u h = parts 16 u h
 
-byteCharge-parts : (u : ℕ) → u < 2 ^ 8 → byteCharge u ≡ ones u * 4096 + literalsOf u
-unfolding byteCharge weight
-byteCharge-parts u h = parts 4096 u h
-
 pub smallSum-le : (u : ℕ) → u < 2 ^ 8 → smallSum u ≤ 140
 smallSum-le u h = omega (arith, smallSum-parts u h, ones-le 8 u h, literals-le u)
 
+-- about two literals a term: one more where all three inputs are there, and at most five fewer in all
+literals-most : (b : ℕ → ℕ) → b 7 < 2 → sumBelow 8 (λ t. b t * literalCount t) ≤ 2 * sumBelow 8 b + 1
+unfolding foldBelow literalCounts literalCount
+literals-most b h = omega arith
+
+literals-fewest : (b : ℕ → ℕ) → b 0 < 2 → b 1 < 2 → b 2 < 2 → b 4 < 2 → 2 * sumBelow 8 b ≤ sumBelow 8 (λ t. b t * literalCount t) + 5
+unfolding foldBelow literalCounts literalCount
+literals-fewest b h₀ h₁ h₂ h₄ = omega arith
+
+literals-apart : (u v : ℕ) → u < 2 ^ 8 → v < 2 ^ 8 → ones u < ones v → literalsOf u ≤ literalsOf v + 4
+literals-apart u v hu hv h =
+    let most = literals-most (λ t. bit t u) (bit-lt 7 u) in
+    let fewest = literals-fewest (λ t. bit t v) (bit-lt 0 v) (bit-lt 1 v) (bit-lt 2 v) (bit-lt 4 v) in
+    omega (arith, most, fewest, ones-bits 8 u hu, ones-bits 8 v hv)
+
 -- ---- the charge that a sum stands for
 
-pub usedCharge-sum : (more u : ℕ) → u < 2 ^ 8 → usedCharge more u ≡ sumCharge more (smallSum u)
-unfolding usedCharge sumCharge weight
-usedCharge-sum more u h =
-    let few : literalsOf u < 16 = omega (arith, literals-le u) in
-    rw (smallSum-parts u h, digits-div (ones u) few, digits-mod (ones u) few)
-    (omega (arith, mul-add (ones u) 4096 more, byteCharge-parts u h, mul-comm (ones u) more))
+module _ (R : Rule) (more : ℕ) where
+  -- as many products, each with its literals outside the mixed set, and the literals in the block
+  usedCharge-parts : (u : ℕ) → u < 2 ^ 8 → usedCharge R more u ≡ ones u * weight R more + literalsOf u * R .literal
+  unfolding usedCharge byteCharge weight
+  usedCharge-parts u h =
+      let each : byteCharge R u ≡ ones u * R .product + literalsOf u * R .literal =
+      fold-ext _+_ 8 _ _ (λ t l. mul-add (bit t u) (R .product) (literalCount t * R .literal) ∙ ap (λ (x : ℕ). bit t u * R .product + x) (sym (mul-assoc (bit t u) (literalCount t) (R .literal))))
+      ∙ sum-digits 8 (R .product) (λ t. bit t u) (λ t. bit t u * literalCount t * R .literal)
+      ∙ ap₂ (λ (x y : ℕ). x * R .product + y) (ones-bits 8 u h) (sum-scaled 8 (R .literal) (λ t. bit t u * literalCount t)) in
+      omega (arith, each, mul-add (ones u) (R .product) (more * R .literal), mul-comm (ones u) (more * R .literal))
 
-pub sumCharge-lt : (more s r : ℕ) → s < r → sumCharge more s < sumCharge more r
-unfolding sumCharge weight
-sumCharge-lt more s r h = go (decLt (s / 16) (r / 16))
-  where
-    go : Dec (s / 16 < r / 16) → s / 16 * (4096 + more) + s % 16 < r / 16 * (4096 + more) + r % 16
-    go (yes l) = omega (arith, mul-le-mul-right (4096 + more) l, suc-mul (s / 16) (4096 + more))
-    go (no l) = let e : s / 16 ≡ r / 16 = omega arith in omega (arith, ap (λ (x : ℕ). x * (4096 + more)) e)
+  pub usedCharge-sum : (u : ℕ) → u < 2 ^ 8 → usedCharge R more u ≡ sumCharge R more (smallSum u)
+  unfolding sumCharge
+  usedCharge-sum u h =
+      let few : literalsOf u < 16 = omega (arith, literals-le u) in
+      usedCharge-parts u h ∙ sym (rw (smallSum-parts u h, digits-div (ones u) few, digits-mod (ones u) few))
+
+  usedCharge-lt : Steep R → (u v : ℕ) → u < 2 ^ 8 → v < 2 ^ 8 → smallSum u < smallSum v → usedCharge R more u < usedCharge R more v
+  usedCharge-lt steep u v hu hv h = rw (usedCharge-parts u hu, usedCharge-parts v hv) (go (decLt (ones u) (ones v)))
+    where
+      go : Dec (ones u < ones v) → ones u * weight R more + literalsOf u * R .literal < ones v * weight R more + literalsOf v * R .literal
+      go (yes l) =
+          omega (
+            arith,
+            steep .four,
+            mul-le-mul-right (weight R more) l,
+            suc-mul (ones u) (weight R more),
+            weight-product R more,
+            mul-le-mul-right (R .literal) (literals-apart u v hu hv l),
+            add-mul (literalsOf v) 4 (R .literal),
+          )
+      go (no l) =
+          let same : ones u ≡ ones v = omega (arith, smallSum-parts u hu, smallSum-parts v hv, literals-le u, literals-le v) in
+          let fewer : literalsOf u < literalsOf v = omega (arith, smallSum-parts u hu, smallSum-parts v hv) in
+          omega (arith, steep .some, ap (λ (x : ℕ). x * weight R more) same, mul-le-mul-right (R .literal) fewer, suc-mul (literalsOf u) (R .literal))
 
 -- ---- the first least polarity
 
-module _ (k more : ℕ) (sums used : ℕ → ℕ) (bytes : (φ : ℕ) → φ < 2 ^ k → used φ < 2 ^ 8) (e : (φ : ℕ) → φ < 2 ^ k → sums φ ≡ smallSum (used φ)) where
-  charged : (φ : ℕ) → φ < 2 ^ k → sumCharge more (sums φ) ≡ usedCharge more (used φ)
-  charged φ h = ap (sumCharge more) (e φ h) ∙ sym (usedCharge-sum more (used φ) (bytes φ h))
+module _ (R : Rule) (steep : Steep R) (k more : ℕ) (sums used : ℕ → ℕ) (bytes : (φ : ℕ) → φ < 2 ^ k → used φ < 2 ^ 8)
+    (e : (φ : ℕ) → φ < 2 ^ k → sums φ ≡ smallSum (used φ)) where
+  charged : (φ : ℕ) → φ < 2 ^ k → sumCharge R more (sums φ) ≡ usedCharge R more (used φ)
+  charged φ h = ap (sumCharge R more) (e φ h) ∙ sym (usedCharge-sum R more (used φ) (bytes φ h))
 
-  pub leastPolarity-sums : leastPolarity k sums ≡ leastPolarity k (λ φ. usedCharge more (used φ))
-  leastPolarity-sums = sym (leastPolarity-map k sums (sumCharge more) (sumCharge-lt more)) ∙ leastPolarity-ext k _ _ charged
+  pub leastPolarity-sums : leastPolarity k sums ≡ leastPolarity k (λ φ. usedCharge R more (used φ))
+  leastPolarity-sums =
+      leastPolarity-alike k sums (λ φ. usedCharge R more (used φ))
+      (λ φ ψ h l c. usedCharge-lt R more steep (used φ) (used ψ) (bytes φ h) (bytes ψ l) (rw (← (e φ h), ← (e ψ l)) c))
+      (λ φ ψ h l c. sym (charged φ h) ∙ ap (sumCharge R more) c ∙ charged ψ l)
 
   -- and the charge under it
-  pub sumCharge-least : sumCharge more (sums (leastPolarity k sums)) ≡ usedCharge more (used (leastPolarity k (λ φ. usedCharge more (used φ))))
+  pub sumCharge-least : sumCharge R more (sums (leastPolarity k sums)) ≡ usedCharge R more (used (leastPolarity k (λ φ. usedCharge R more (used φ))))
   sumCharge-least =
-      charged (leastPolarity k sums) (polarity-first k sums .below) ∙ ap (λ (φ : ℕ). usedCharge more (used φ)) leastPolarity-sums
+      charged (leastPolarity k sums) (polarity-first k sums .below) ∙ ap (λ (φ : ℕ). usedCharge R more (used φ)) leastPolarity-sums

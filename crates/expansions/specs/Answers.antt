@@ -1,5 +1,5 @@
--- The answer, twice. First as document 01 says it: the member that gives the table and comes first in its order. Then as a function,
--- block by block. The function's result is that member, and the only one (proofs/Answers, `answer-is`, `answer-only`).
+-- The answer for each family, twice. First as documents 01 and 02 say it: the member that gives the table and comes first in the family's order.
+-- Then as a function, block by block. The function's result is that member, and the only one (proofs/Answers, `answer-is`, `answer-only`).
 use mathlib.Core.Bool.{Bool, true, _&&_}
 use mathlib.Core.Path.{_≡_}
 use Prim.Native.Nat.{ℕ, _+_, _-_, _*_, _/_, _%_, _^_, _≤_, _<_}
@@ -10,32 +10,35 @@ use Rattle.numbers.specs.Tests.{only}
 use Rattle.algebra.specs.Coefficients.{coefficient}
 use Rattle.expansions.specs.Split.{gather, outside, join}
 use Rattle.expansions.specs.Members.{block, place, Member, Gives}
-use Rattle.expansions.specs.Costs.{counted, products, literals, weight, NoDearer}
+use Rattle.expansions.specs.Costs.{counted, products, literals}
+use Rattle.expansions.specs.declared.families.Family.{Family}
+use Rattle.expansions.specs.Rules.{costOf, tieOf, NoDearer, Rule, weight, ruleOf}
 use Rattle.expansions.specs.Least.{LeastThen, firstLeast, chosen}
 
--- ---- the answer in document 01's words
+-- ---- the answer in the documents' words
 
--- "fewest products, then fewest literals, then least M, then least i, then in each block the least φj"
-abbrev pub NotAfter : ℕ → ℕ → (M i : ℕ) (φ c : ℕ → ℕ) → (M′ i′ : ℕ) (φ′ c′ : ℕ → ℕ) → Type 0
-NotAfter n k M i φ c M′ i′ φ′ c′ =
-    LeastThen (products n c) (products n c′)
-    (LeastThen (literals n c) (literals n c′) (LeastThen M M′ (LeastThen i i′ ((j : ℕ) → j < 2 ^ (n - k) → φ j ≤ φ′ j))))
+-- family one: "fewest products, then fewest literals, then least M, then least i, then in each block the least φj"; family two: "minimised by that
+-- charge, and among equal charges by fewest products, then in 01's order"
+abbrev pub NotAfter : Family → ℕ → ℕ → (M i : ℕ) (φ c : ℕ → ℕ) → (M′ i′ : ℕ) (φ′ c′ : ℕ → ℕ) → Type 0
+NotAfter F n k M i φ c M′ i′ φ′ c′ =
+    LeastThen (costOf F (products n c) (literals n c)) (costOf F (products n c′) (literals n c′))
+    (LeastThen (tieOf F (products n c) (literals n c)) (tieOf F (products n c′) (literals n c′))
+    (LeastThen M M′ (LeastThen i i′ ((j : ℕ) → j < 2 ^ (n - k) → φ j ≤ φ′ j))))
 
 -- "The answer is the member that gives the table with fewest products, ..": no other that gives it, with "any coefficients", comes before it
-pub record IsAnswer (n k : ℕ) (f : ℕ → ℕ) (M i : ℕ) (φ c : ℕ → ℕ) : Type 0 where
+pub record IsAnswer (F : Family) (n k : ℕ) (f : ℕ → ℕ) (M i : ℕ) (φ c : ℕ → ℕ) : Type 0 where
   pub member : Member n k M i φ
   pub gives : Gives n M i φ c f
-  pub first : (M′ i′ : ℕ) (φ′ c′ : ℕ → ℕ) → Member n k M′ i′ φ′ → Gives n M′ i′ φ′ c′ f → NotAfter n k M i φ c M′ i′ φ′ c′
+  pub first : (M′ i′ : ℕ) (φ′ c′ : ℕ → ℕ) → Member n k M′ i′ φ′ → Gives n M′ i′ φ′ c′ f → NotAfter F n k M i φ c M′ i′ φ′ c′
 
 -- An answer with its counts p and l: "Products are the terms with c[t] not 0; literals are the bits set in those t, summed"
-pub record Minimal (n k : ℕ) (f : ℕ → ℕ) (M i : ℕ) (φ c : ℕ → ℕ) (p l : ℕ) : Type 0 where
-  pub answer : IsAnswer n k f M i φ c
+pub record Minimal (F : Family) (n k : ℕ) (f : ℕ → ℕ) (M i : ℕ) (φ c : ℕ → ℕ) (p l : ℕ) : Type 0 where
+  pub answer : IsAnswer F n k f M i φ c
   pub products-counted : p ≡ products n c
   pub literals-counted : l ≡ literals n c
-  -- every other expansion of the class that gives these outputs, with "any coefficients", costs at least as much: "fewest products, then
-  -- fewest literals"
+  -- every other expansion of the class that gives these outputs, with "any coefficients", costs at least as much, as the family weighs them
   pub cheapest : (M′ i′ : ℕ) (φ′ c′ : ℕ → ℕ) → Member n k M′ i′ φ′ → Gives n M′ i′ φ′ c′ f
-      → NoDearer p l (products n c′) (literals n c′)
+      → NoDearer F p l (products n c′) (literals n c′)
 
 -- ---- the answer as a function
 
@@ -47,9 +50,9 @@ blockFunction n k f M i j s = coefficient (n - k) (gather n (outside n M) i) (λ
 unfoldable pub memberCoefficient : ℕ → ℕ → (ℕ → ℕ) → (M i : ℕ) → (ℕ → ℕ) → ℕ → ℕ
 memberCoefficient n k f M i φ t = coefficient k (φ (block n M t)) (blockFunction n k f M i (block n M t)) (place n M t)
 
--- what the block j costs under the block polarity φ
-unfoldable pub blockCharge : ℕ → ℕ → (ℕ → ℕ) → (M i j φ : ℕ) → ℕ
-blockCharge n k f M i j φ = sumBelow (2 ^ k) (λ r. counted (coefficient k φ (blockFunction n k f M i j) r) (weight (ones j + ones r)))
+-- what the block j costs under the block polarity φ, by a rule
+unfoldable pub blockCharge : Rule → ℕ → ℕ → (ℕ → ℕ) → (M i j φ : ℕ) → ℕ
+blockCharge R n k f M i j φ = sumBelow (2 ^ k) (λ r. counted (coefficient k φ (blockFunction n k f M i j) r) (weight R (ones j + ones r)))
 
 -- "in each block the least φj" of those under which the block, by its charge, costs least
 unfoldable pub leastPolarity : ℕ → (ℕ → ℕ) → ℕ
@@ -69,21 +72,23 @@ leastPair n k valid charge =
     chosen (firstLeast (2 ^ n * 2 ^ n) (λ x. valid (x / 2 ^ n) (x % 2 ^ n)) (λ x. pairCharge n k (charge (x / 2 ^ n) (x % 2 ^ n))))
 
 -- the answer's M and i, as one number
-unfoldable pub answerPair : ℕ → ℕ → (ℕ → ℕ) → ℕ
-answerPair n k f = leastPair n k (validPair n k) (blockCharge n k f)
+unfoldable pub answerPair : Family → ℕ → ℕ → (ℕ → ℕ) → ℕ
+answerPair F n k f = leastPair n k (validPair n k) (blockCharge (ruleOf F) n k f)
 
 -- the answer's mixed set M
-unfoldable pub answerMixed : ℕ → ℕ → (ℕ → ℕ) → ℕ
-answerMixed n k f = answerPair n k f / 2 ^ n
+unfoldable pub answerMixed : Family → ℕ → ℕ → (ℕ → ℕ) → ℕ
+answerMixed F n k f = answerPair F n k f / 2 ^ n
 
 -- the answer's fixed polarity i
-unfoldable pub answerFixed : ℕ → ℕ → (ℕ → ℕ) → ℕ
-answerFixed n k f = answerPair n k f % 2 ^ n
+unfoldable pub answerFixed : Family → ℕ → ℕ → (ℕ → ℕ) → ℕ
+answerFixed F n k f = answerPair F n k f % 2 ^ n
 
 -- the answer's block polarity φj, and 0 where there is no block j
-unfoldable pub answerPolarity : ℕ → ℕ → (ℕ → ℕ) → ℕ → ℕ
-answerPolarity n k f j = only (ltb j (2 ^ (n - k))) (leastPolarity k (blockCharge n k f (answerMixed n k f) (answerFixed n k f) j))
+unfoldable pub answerPolarity : Family → ℕ → ℕ → (ℕ → ℕ) → ℕ → ℕ
+answerPolarity F n k f j =
+    only (ltb j (2 ^ (n - k))) (leastPolarity k (blockCharge (ruleOf F) n k f (answerMixed F n k f) (answerFixed F n k f) j))
 
 -- the answer's coefficient of the term t, "zero from 2^n on"
-unfoldable pub answerCoefficient : ℕ → ℕ → (ℕ → ℕ) → ℕ → ℕ
-answerCoefficient n k f t = only (ltb t (2 ^ n)) (memberCoefficient n k f (answerMixed n k f) (answerFixed n k f) (answerPolarity n k f) t)
+unfoldable pub answerCoefficient : Family → ℕ → ℕ → (ℕ → ℕ) → ℕ → ℕ
+answerCoefficient F n k f t =
+    only (ltb t (2 ^ n)) (memberCoefficient n k f (answerMixed F n k f) (answerFixed F n k f) (answerPolarity F n k f) t)

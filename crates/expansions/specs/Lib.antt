@@ -1,5 +1,6 @@
 pub mod Split
 pub mod Members
+pub mod Rules
 pub mod Costs
 pub mod Least
 pub mod Answers

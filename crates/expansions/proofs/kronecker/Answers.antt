@@ -8,7 +8,9 @@ use native.Mathlib.Decide.{decLt}
 use native.Mathlib.Omega.{arith}
 use lib.Arith.{digits-div, digits-mod}
 use lib.Pow.{pow-pos}
-use Rattle.expansions.specs.Costs.{products, NoDearer}
+use Rattle.expansions.specs.declared.families.Family.the-variants.{One}
+use Rattle.expansions.specs.Costs.{products}
+use Rattle.expansions.specs.Rules.{NoDearer}
 use Rattle.expansions.specs.Least.{LeastThen, chosen}
 use Rattle.expansions.proofs.Least.{then-le, then-rest, then-map, then-antisym, then-digits, IsFirst, chosen-is, firstLeast-ext}
 use Rattle.expansions.proofs.Answers.{only-below, only-above, only-ext}
@@ -119,7 +121,7 @@ kronecker-answer-only n f letters c h a =
 -- ---- nothing is cheaper
 
 pub kronecker-answer-cheapest : (n : ℕ) (f letters c : ℕ → ℕ) → IsKroneckerAnswer n f letters c → (b d : ℕ → ℕ) → IsKind n b → KroneckerGives n b d f
-    → NoDearer (products n c) (kroneckerLiterals n letters c) (products n d) (kroneckerLiterals n b d)
+    → NoDearer One (products n c) (kroneckerLiterals n letters c) (products n d) (kroneckerLiterals n b d)
 kronecker-answer-cheapest n f letters c a b d kind gives =
     let before = a .first b d kind gives in
     (then-le _ _ before, λ e. then-le _ _ (then-rest _ _ e before))

@@ -7,9 +7,11 @@ use native.Mathlib.Omega.{arith}
 use lib.Pow.{pow-mono}
 use Rattle.numbers.specs.Bits.{bit}
 use Rattle.numbers.proofs.Sums.{fold-ext}
-use Rattle.expansions.specs.Costs.{counted, products, weight}
-use Rattle.expansions.proofs.Counted.{counted-le, counted-weight}
-use Rattle.expansions.proofs.Costs.{sum-le, sum-digits}
+use Rattle.expansions.specs.declared.families.Family.the-variants.{One}
+use Rattle.expansions.specs.Costs.{counted, products}
+use Rattle.expansions.specs.Rules.{weight, ruleOf}
+use Rattle.expansions.proofs.Counted.{counted-le}
+use Rattle.expansions.proofs.Costs.{sum-le, sum-weights}
 use Rattle.expansions.specs.kronecker.Letters.{Literal, absent, plain, complemented, literalOf, literalCount, termLiteral}
 use Rattle.expansions.specs.kronecker.Letters.{IsKind, KroneckerGives, lettersOf, kindNumber}
 use Rattle.expansions.specs.kronecker.Steps.{kroneckerCoefficient}
@@ -55,13 +57,13 @@ kronecker-literals-ext n letters c d e = fold-ext _+_ (2 ^ n) _ _ (λ t l. ap (�
 
 pub kronecker-charge-parts : (n : ℕ) (letters c : ℕ → ℕ) → kroneckerCharge n letters c ≡ products n c * 4096 + kroneckerLiterals n letters c
 unfolding kroneckerCharge products kroneckerLiterals
-kronecker-charge-parts n letters c = simp counted-weight (sum-digits (2 ^ n) 4096 (λ t. counted (c t) 1) (λ t. counted (c t) (termLiterals n letters t)))
+kronecker-charge-parts n letters c = omega (arith, sum-weights (ruleOf One) (2 ^ n) c (termLiterals n letters))
 
 pub kronecker-charge-ext : (n : ℕ) (a b c d : ℕ → ℕ) → ((i : ℕ) → i < n → a i ≡ b i) → ((t : ℕ) → t < 2 ^ n → c t ≡ d t)
     → kroneckerCharge n a c ≡ kroneckerCharge n b d
 unfolding kroneckerCharge
 kronecker-charge-ext n a b c d e f =
-    fold-ext _+_ (2 ^ n) _ _ (λ t l. ap₂ (λ (x y : ℕ). counted x (weight y)) (f t l) (term-literals-ext n a b t e))
+    fold-ext _+_ (2 ^ n) _ _ (λ t l. ap₂ (λ (x y : ℕ). counted x (weight (ruleOf One) y)) (f t l) (term-literals-ext n a b t e))
 
 -- every expansion of a kind that gives f is charged as the kind's number is
 pub kronecker-charge-rival : (n : ℕ) (f b d : ℕ → ℕ) → IsKind n b → KroneckerGives n b d f → kroneckerCharge n b d ≡ kindCharge n f (kindNumber n b)

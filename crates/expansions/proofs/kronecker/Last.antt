@@ -10,7 +10,9 @@ use lib.Arith.{digits-div}
 use lib.Dec.{lit<}
 use Rattle.numbers.specs.Sums.{foldBelow, sumBelow}
 use Rattle.numbers.proofs.Sums.{fold-ext}
-use Rattle.expansions.specs.Costs.{counted, products, weight}
+use Rattle.expansions.specs.declared.families.Family.the-variants.{One}
+use Rattle.expansions.specs.Costs.{counted, products}
+use Rattle.expansions.specs.Rules.{weight, ruleOf}
 use Rattle.expansions.specs.kronecker.Letters.{literalOf, literalCount, lettersOf}
 use Rattle.expansions.specs.kronecker.Steps.{stepValue, kroneckerCoefficient}
 use Rattle.expansions.specs.kronecker.Costs.{termLiterals, kroneckerCharge}
@@ -37,15 +39,15 @@ sum-more zero k c x = omega (arith, mul-zero k)
 sum-more (suc N) k c x = omega (arith, sum-more N k c x, counted-more (c N) (x N) k, mul-add k (sumBelow N (λ s. counted (c s) 1)) (counted (c N) 1))
 
 charge-half : (m : ℕ) (letters c : ℕ → ℕ) (d : ℕ) → d < 2
-    → sumBelow (2 ^ m) (λ s. counted (c (d * 2 ^ m + s)) (weight (termLiterals (suc m) letters (d * 2 ^ m + s))))
+    → sumBelow (2 ^ m) (λ s. counted (c (d * 2 ^ m + s)) (weight (ruleOf One) (termLiterals (suc m) letters (d * 2 ^ m + s))))
     ≡ kroneckerCharge m letters (λ s. c (d * 2 ^ m + s)) + literalCount (literalOf (letters m) d) * products m (λ s. c (d * 2 ^ m + s))
 unfolding kroneckerCharge products
 charge-half m letters c d hd =
     fold-ext _+_ (2 ^ m) _ _
     (λ s hs.
     ap (counted (c (d * 2 ^ m + s)))
-    (ap weight (literals-top m letters d s hd hs) ∙ add-weight (termLiterals m letters s) (literalCount (literalOf (letters m) d))))
-    ∙ sum-more (2 ^ m) (literalCount (literalOf (letters m) d)) (λ s. c (d * 2 ^ m + s)) (λ s. weight (termLiterals m letters s))
+    (ap (weight (ruleOf One)) (literals-top m letters d s hd hs) ∙ add-weight (termLiterals m letters s) (literalCount (literalOf (letters m) d))))
+    ∙ sum-more (2 ^ m) (literalCount (literalOf (letters m) d)) (λ s. c (d * 2 ^ m + s)) (λ s. weight (ruleOf One) (termLiterals m letters s))
 
 charge-top : (m : ℕ) (letters c : ℕ → ℕ) → kroneckerCharge (suc m) letters c
     ≡ (kroneckerCharge m letters (λ s. c (0 * 2 ^ m + s)) + literalCount (literalOf (letters m) 0) * products m (λ s. c (0 * 2 ^ m + s)))
@@ -92,7 +94,7 @@ module _ (m k power : ℕ) (f values weights : ℕ → ℕ) (a : AtPlace (suc m)
     unfolding kroneckerCharge weightOf
     half-weight d hd =
         fold-ext _+_ (2 ^ m) _ _
-        (λ s hs. ap₂ counted (coefficient-half d s hd hs) (ap weight (term-literals-ext m (lettersOf x) (lettersOf k) s low) ∙ sym (a .weighed s hs)))
+        (λ s hs. ap₂ counted (coefficient-half d s hd hs) (ap (weight (ruleOf One)) (term-literals-ext m (lettersOf x) (lettersOf k) s low) ∙ sym (a .weighed s hs)))
 
     raised-half : (d : ℕ) → d < 2
         → kroneckerCharge m (lettersOf x) (λ s. kroneckerCoefficient (suc m) (lettersOf x) f (d * 2 ^ m + s))

@@ -16,7 +16,8 @@ use Rattle.numbers.specs.Sums.{foldBelow}
 use Rattle.numbers.proofs.Bits.{bit-below}
 use Rattle.numbers.proofs.Sums.{fold-ext}
 use Rattle.numbers.proofs.Tables.{at-whole}
-use Rattle.expansions.specs.Costs.{weight}
+use Rattle.expansions.specs.declared.families.Family.the-variants.{One}
+use Rattle.expansions.specs.Rules.{weight, ruleOf}
 use Rattle.expansions.specs.kronecker.Letters.{literalOf, literalCount, lettersOf}
 use Rattle.expansions.specs.kronecker.Steps.{kroneckerStep, kroneckerCoefficient}
 use Rattle.expansions.specs.kronecker.Costs.{termLiterals}
@@ -53,7 +54,7 @@ pub count-shannon : literalCount (literalOf 0 0) ≡ 1
 unfolding literalCount literalOf
 count-shannon = refl
 
-pub add-weight : (x y : ℕ) → weight (x + y) ≡ weight x + y
+pub add-weight : (x y : ℕ) → weight (ruleOf One) (x + y) ≡ weight (ruleOf One) x + y
 unfolding weight
 add-weight x y = omega arith
 
@@ -86,15 +87,15 @@ module _ (n i k power letter k′ : ℕ) (f values weights values′ weights′ 
       stepped t l ∙ kronecker-step-ext n i letter values (kroneckerCoefficient i (lettersOf k) f) (omega arith) (a .stepped) t l
       ∙ ap₂ (λ (x : ℕ) (g : ℕ → ℕ). kroneckerStep i x g t) (sym top) (kronecker-coefficient-letters i (lettersOf k) (lettersOf k′) f low)
 
-  weights-next : (s : ℕ) → s < 2 ^ suc i → weights′ s ≡ weight (termLiterals (suc i) (lettersOf k′) s)
+  weights-next : (s : ℕ) → s < 2 ^ suc i → weights′ s ≡ weight (ruleOf One) (termLiterals (suc i) (lettersOf k′) s)
   weights-next =
-      below-halves i (λ s. weights′ s ≡ weight (termLiterals (suc i) (lettersOf k′) s)) (λ d s hd hs. each d s hd hs ∙ sym (top-weight d s hd hs))
+      below-halves i (λ s. weights′ s ≡ weight (ruleOf One) (termLiterals (suc i) (lettersOf k′) s)) (λ d s hd hs. each d s hd hs ∙ sym (top-weight d s hd hs))
     where
       top-weight : (d s : ℕ) → d < 2 → s < 2 ^ i
-          → weight (termLiterals (suc i) (lettersOf k′) (d * 2 ^ i + s)) ≡ weights s + literalCount (literalOf letter d)
+          → weight (ruleOf One) (termLiterals (suc i) (lettersOf k′) (d * 2 ^ i + s)) ≡ weights s + literalCount (literalOf letter d)
       top-weight d s hd hs =
-          ap weight (literals-top i (lettersOf k′) d s hd hs)
-          ∙ ap₂ (λ (x y : ℕ). weight (x + literalCount (literalOf y d))) (sym (term-literals-ext i (lettersOf k) (lettersOf k′) s low)) top
+          ap (weight (ruleOf One)) (literals-top i (lettersOf k′) d s hd hs)
+          ∙ ap₂ (λ (x y : ℕ). weight (ruleOf One) (x + literalCount (literalOf y d))) (sym (term-literals-ext i (lettersOf k) (lettersOf k′) s low)) top
           ∙ add-weight (termLiterals i (lettersOf k) s) (literalCount (literalOf letter d))
           ∙ ap (λ (x : ℕ). x + literalCount (literalOf letter d)) (sym (a .weighed s hs))
 

@@ -1,11 +1,11 @@
--- What the terms of one block are charged, by their bits in a byte. Cited by the contracts of private functions alone.
+-- What the terms of one block are charged under a rule, by their bits in a byte. Cited by the contracts of private functions alone.
 use mathlib.Core.List.{List, [], _∷_}
 use Prim.Native.Nat.{ℕ, _+_, _*_, _/_, _%_}
 use lib.Count.{ones}
 use Rattle.numbers.specs.Bytes.{at}
 use Rattle.numbers.specs.Sums.{sumBelow}
 use Rattle.numbers.specs.Bits.{bit}
-use Rattle.expansions.specs.Costs.{weight}
+use Rattle.expansions.specs.Rules.{Rule, weight}
 
 -- "The literal count of each of the eight terms is 0, 1, 1, 2, 1, 2, 2, 3"
 unfoldable pub literalCounts : List ℕ
@@ -16,15 +16,16 @@ unfoldable pub literalCount : ℕ → ℕ
 literalCount t = at literalCounts t
 
 -- the charge of the terms of a block that are the bits of the byte u: the weight of each, by its literals in the block
-unfoldable pub byteCharge : ℕ → ℕ
-byteCharge u = sumBelow 8 (λ t. bit t u * weight (literalCount t))
+unfoldable pub byteCharge : Rule → ℕ → ℕ
+byteCharge R u = sumBelow 8 (λ t. bit t u * weight R (literalCount t))
 
 -- what a block costs by the byte u of its terms, where each has `more` literals outside the mixed set
-unfoldable pub usedCharge : ℕ → ℕ → ℕ
-usedCharge more u = byteCharge u + more * ones u
+unfoldable pub usedCharge : Rule → ℕ → ℕ → ℕ
+usedCharge R more u = byteCharge R u + more * R .literal * ones u
 
 -- the terms below T of the byte u as one small number: 16 for each product and 1 for each literal in the block. It is at most 140, so that
--- the sums of eight bytes stand side by side in a word
+-- the sums of eight bytes stand side by side in a word; under every rule by which a product weighs more than four literals it orders the bytes as
+-- their charges do (proofs/SmallSums)
 unfoldable pub sumTo : ℕ → ℕ → ℕ
 sumTo T u = sumBelow T (λ t. bit t u * (16 + literalCount t))
 
@@ -33,5 +34,5 @@ abbrev pub smallSum : ℕ → ℕ
 smallSum u = sumTo 8 u
 
 -- the charge that a small sum stands for, where each term has `more` literals outside the mixed set
-unfoldable pub sumCharge : ℕ → ℕ → ℕ
-sumCharge more s = s / 16 * weight more + s % 16
+unfoldable pub sumCharge : Rule → ℕ → ℕ → ℕ
+sumCharge R more s = s / 16 * weight R more + s % 16 * R .literal

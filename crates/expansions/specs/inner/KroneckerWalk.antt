@@ -5,7 +5,9 @@ use mathlib.Core.Logic.{_⊎_}
 use Prim.Native.Nat.{ℕ, _+_, _*_, _%_, _^_, _≤_, _<_}
 use lib.Bits.{bitXor}
 use Rattle.numbers.specs.Sums.{sumBelow}
-use Rattle.expansions.specs.Costs.{counted, weight}
+use Rattle.expansions.specs.Costs.{counted}
+use Rattle.expansions.specs.declared.families.Family.the-variants.{One}
+use Rattle.expansions.specs.Rules.{weight, ruleOf}
 use Rattle.expansions.specs.kronecker.Letters.{lettersOf}
 use Rattle.expansions.specs.kronecker.Steps.{stepValue, kroneckerStep, kroneckerCoefficient}
 use Rattle.expansions.specs.kronecker.Costs.{termLiterals}
@@ -74,7 +76,7 @@ pub record AtPlace (n i k power : ℕ) (f values weights : ℕ → ℕ) : Type 0
   pub digit : power ≡ 3 ^ i
   pub room : k + power + power < 8192
   pub stepped : (t : ℕ) → t < 2 ^ n → values t ≡ kroneckerCoefficient i (lettersOf k) f t
-  pub weighed : (s : ℕ) → s < 2 ^ i → weights s ≡ weight (termLiterals i (lettersOf k) s)
+  pub weighed : (s : ℕ) → s < 2 ^ i → weights s ≡ weight (ruleOf One) (termLiterals i (lettersOf k) s)
 
 -- a place of the walk for some table
 abbrev pub Place : (n i k power : ℕ) (values weights : ℕ → ℕ) → Type 0

@@ -6,7 +6,9 @@ use mathlib.Core.Path.{_≡_}
 use Prim.Native.Nat.{ℕ, zero, suc, _^_, _≤_}
 use lib.Dec.{ltb}
 use Rattle.numbers.specs.Tests.{only}
-use Rattle.expansions.specs.Costs.{products, NoDearer}
+use Rattle.expansions.specs.Costs.{products}
+use Rattle.expansions.specs.declared.families.Family.the-variants.{One}
+use Rattle.expansions.specs.Rules.{NoDearer}
 use Rattle.expansions.specs.Least.{LeastThen, firstLeast, chosen}
 use Rattle.expansions.specs.kronecker.Letters.{IsKind, KroneckerGives, lettersOf}
 use Rattle.expansions.specs.kronecker.Steps.{kroneckerCoefficient}
@@ -36,7 +38,7 @@ pub record KroneckerMinimal (n : ℕ) (f letters c : ℕ → ℕ) (p l : ℕ) : 
   pub products-counted : p ≡ products n c
   pub literals-counted : l ≡ kroneckerLiterals n letters c
   -- "Demand 3 holds for `K` too, its rivals all expansions of these 3^n kinds that give the same outputs": each costs at least as much
-  pub cheapest : (b d : ℕ → ℕ) → IsKind n b → KroneckerGives n b d f → NoDearer p l (products n d) (kroneckerLiterals n b d)
+  pub cheapest : (b d : ℕ → ℕ) → IsKind n b → KroneckerGives n b d f → NoDearer One p l (products n d) (kroneckerLiterals n b d)
 
 -- ---- the answer as a function
 

@@ -1,0 +1,74 @@
+-- The rules of charging. Under any rule each literal more adds the same to a product's weight (`weight-more`). Under the rule of a family the weights
+-- of p products with l literals are one number for what the family compares first and what it compares then (`rule-cost`, `tie-lt`), and p and l are
+-- had back from it (`rule-products`, `rule-literals`).
+use mathlib.Core.Path.{_≡_}
+use Prim.Native.Nat.{ℕ, zero, suc, _+_, _*_, _/_, _%_, _≤_, _<_}
+use native.Mathlib.Nat.{add-mul, mul-le-mul-right}
+use native.Mathlib.Omega.{arith}
+use Rattle.expansions.specs.declared.families.Family.{Family}
+use Rattle.expansions.specs.declared.families.Family.the-variants.{One, Two}
+use Rattle.expansions.specs.Costs.{counted}
+use Rattle.expansions.specs.Rules.{costOf, tieOf, Rule, weight, ruleOf}
+
+-- ---- any rule
+
+pub weight-more : (R : Rule) (more l : ℕ) → weight R (more + l) ≡ weight R l + more * R .literal
+unfolding weight
+weight-more R more l = omega (arith, add-mul more l (R .literal))
+
+pub weight-product : (R : Rule) (l : ℕ) → R .product ≤ weight R l
+unfolding weight
+weight-product R l = omega arith
+
+pub weight-le : (R : Rule) (l most : ℕ) → l ≤ most → weight R l ≤ weight R most
+unfolding weight
+weight-le R l most h = omega (arith, mul-le-mul-right (R .literal) h)
+
+pub counted-weight : (R : Rule) (c l : ℕ) → counted c (weight R l) ≡ counted c 1 * R .product + counted c l * R .literal
+unfolding counted weight
+counted-weight R zero l = omega arith
+counted-weight R (suc c) l = omega arith
+
+-- ---- the rules of the families
+
+-- above every number that a family compares second
+abbrev pub base : Family → ℕ
+base One = 4096
+base Two = 512
+
+pub rule-cost : (F : Family) (p l : ℕ) → p * ruleOf F .product + l * ruleOf F .literal ≡ costOf F p l * base F + tieOf F p l
+rule-cost One p l = omega arith
+rule-cost Two p l = omega arith
+
+pub tie-lt : (F : Family) (p l : ℕ) → p ≤ 256 → l < 4096 → tieOf F p l < base F
+tie-lt One p l hp hl = hl
+tie-lt Two p l hp hl = omega arith
+
+pub rule-products : (F : Family) (p l : ℕ) → p ≤ 256 → l < 4096 → ruleOf F .productsIn (p * ruleOf F .product + l * ruleOf F .literal) ≡ p
+rule-products One p l hp hl = omega arith
+rule-products Two p l hp hl = omega arith
+
+pub rule-literals : (F : Family) (p l : ℕ) → p ≤ 256 → l < 4096 → ruleOf F .literalsIn (p * ruleOf F .product + l * ruleOf F .literal) ≡ l
+rule-literals One p l hp hl = omega arith
+rule-literals Two p l hp hl =
+    let sum : ℕ = p * 2049 + l * 512 in
+    let whole : sum / 512 ≡ 4 * p + l = omega arith in
+    let rest : sum % 512 ≡ p = omega arith in
+    rw (whole, rest) (omega arith)
+
+-- ---- what the search needs of them
+
+-- a literal weighs something, and a product without literals more than four literals
+pub record Steep (R : Rule) : Type 0 where
+  pub some : 0 < R .literal
+  pub four : 4 * R .literal < R .product
+
+pub rule-steep : (F : Family) → Steep (ruleOf F)
+rule-steep One = record { some = omega arith; four = omega arith }
+rule-steep Two = record { some = omega arith; four = omega arith }
+
+-- the bound of what a product weighs: three literals in a block and eight outside it
+pub rule-small : (F : Family) → weight (ruleOf F) 11 ≤ 8192
+unfolding weight
+rule-small One = omega arith
+rule-small Two = omega arith
