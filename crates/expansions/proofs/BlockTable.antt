@@ -30,7 +30,7 @@ use Rattle.numbers.proofs.Bits.{bit-lt}
 use Rattle.numbers.proofs.Pack.{pack-ext, pack-lt, pack-bit, pack-bits, bit-ors}
 use Rattle.expansions.proofs.Blocks.{blockFunction-lt}
 use Rattle.expansions.proofs.Counted.{counted-mul, counted-bits, counted-le}
-use Rattle.expansions.proofs.Rules.{weight-le, rule-small}
+use Rattle.expansions.proofs.Rules.{weight-le, weight-small}
 use Rattle.expansions.proofs.Costs.{sum-le}
 use Rattle.expansions.proofs.Minimal.{pairCharge-le}
 use Rattle.expansions.proofs.Charges.{literalCount-ones, byteCharge-outside}
@@ -202,7 +202,7 @@ pub pairCharge-small : (F : Family) (n k : ℕ) (f : ℕ → ℕ) (M i : ℕ) �
 pairCharge-small F n k f M i hn hk within =
     let R : Rule = ruleOf F in
     let blocks = pairCharge-le n k (2 ^ k * weight R n) (blockCharge R n k f M i) (λ j φ h l. blockCharge-le R n k f M i j φ within h) in
-    let product : weight R n ≤ 8192 = omega (arith, weight-le R n 11 (omega arith), rule-small F) in
+    let product : weight R n ≤ 8192 = omega (arith, weight-small F n) in
     let places : 2 ^ k * weight R n ≤ 2 ^ 3 * 8192 = mul-le-mul (pow-mono hk) product in
     let most : 2 ^ (n - k) * (2 ^ k * weight R n) ≤ 2 ^ 8 * (2 ^ 3 * 8192) = mul-le-mul (pow-mono {j = 8} (omega arith)) places in
     omega arith

@@ -91,10 +91,12 @@ sum-ones (suc n) =
     omega (arith, split, evens, odds, sum-ones n)
 
 -- no more than with every term a product
-pub literals-le : (n : ℕ) (c : ℕ → ℕ) → literals n c * 2 ≤ 2 ^ n * n
+pub literals-most : (n : ℕ) (c : ℕ → ℕ) → literals n c ≤ sumBelow (2 ^ n) ones
 unfolding literals
-literals-le n c =
-    omega (arith, sum-mono (2 ^ n) (λ t. counted (c t) (ones t)) ones (λ t l. counted-le (c t) (ones t) (ones t) (omega arith)), sum-ones n)
+literals-most n c = sum-mono (2 ^ n) (λ t. counted (c t) (ones t)) ones (λ t l. counted-le (c t) (ones t) (ones t) (omega arith))
+
+pub literals-le : (n : ℕ) (c : ℕ → ℕ) → literals n c * 2 ≤ 2 ^ n * n
+literals-le n c = omega (arith, literals-most n c, sum-ones n)
 
 pub literals-lt : (n : ℕ) (c : ℕ → ℕ) → n ≤ 8 → literals n c < 4096
 literals-lt n c h = omega (arith, literals-le n c, mul-le-mul (pow-mono h) h)

@@ -3,7 +3,7 @@
 -- had back from it (`rule-products`, `rule-literals`).
 use mathlib.Core.Path.{_≡_}
 use Prim.Native.Nat.{ℕ, zero, suc, _+_, _*_, _/_, _%_, _≤_, _<_}
-use native.Mathlib.Nat.{add-mul, mul-le-mul-right}
+use native.Mathlib.Nat.{add-mul, mul-le-mul, mul-le-mul-right}
 use native.Mathlib.Omega.{arith}
 use Rattle.expansions.specs.declared.families.Family.{Family}
 use Rattle.expansions.specs.declared.families.Family.the-variants.{One, Two}
@@ -67,8 +67,13 @@ pub rule-steep : (F : Family) → Steep (ruleOf F)
 rule-steep One = record { some = omega arith; four = omega arith }
 rule-steep Two = record { some = omega arith; four = omega arith }
 
--- the bound of what a product weighs: three literals in a block and eight outside it
-pub rule-small : (F : Family) → weight (ruleOf F) 11 ≤ 8192
+-- the bounds of the two weights
+pub rule-small : (F : Family) → (ruleOf F .product ≤ 4096) × (ruleOf F .literal ≤ 512)
+rule-small One = (omega arith, omega arith)
+rule-small Two = (omega arith, omega arith)
+
+pub weight-small : (F : Family) (l : ℕ) → weight (ruleOf F) l ≤ 4096 + l * 512
 unfolding weight
-rule-small One = omega arith
-rule-small Two = omega arith
+weight-small F l =
+    let same : l ≤ l = omega arith in
+    omega (arith, rule-small F, mul-le-mul same (rule-small F .1))

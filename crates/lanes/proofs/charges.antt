@@ -1,3 +1,4 @@
 pub mod Used
 pub mod Sums
 pub mod Polarities
+pub mod Weighed

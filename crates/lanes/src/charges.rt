@@ -1,5 +1,5 @@
-// What a block costs, one number for products, then literals: 4096 for each product and 1 for each literal. The eight polarities of a block
-// are charged side by side in one word, term by term. The main property: `cheapest_block` hands up the first least polarity of a block.
+// What a block costs, by the rule of a family. The eight polarities of a block are compared side by side in one word, term by term, by small sums that
+// order them as every family's charge does. The main property: `cheapest_block` hands up the first least polarity of a block and its charge.
 ghost use mathlib.Core.Path.{_≡_};
 ghost use Prim.Native.Nat.{_+_, _*_, _≤_, _<_};
 ghost use lib.Count.{ones};
@@ -7,8 +7,13 @@ ghost use lib.ListN.{length};
 ghost use Rattle.numbers.specs.Bytes.{at};
 ghost use Rattle.numbers.specs.Words.{word, byte};
 ghost use Rattle.expansions.specs.BlockTable.{blockRows};
-ghost use Rattle.expansions.specs.inner.Charges.{smallSum, usedCharge};
-ghost use Rattle.lanes.specs.inner.Charges.{usedAt, IsLeastSum, IsCheapest};
+ghost use Rattle.expansions.specs.Rules.{ruleOf};
+ghost use Rattle.expansions.specs.inner.Charges.{smallSum, sumCharge};
+ghost use Rattle.lanes.specs.inner.Charges.{usedAt, chargeFrom, IsLeastSum, IsCheapest};
+ghost use Rattle.lanes.specs.inner.Sizes.{Limits};
+use crate::sizes::Sizes;
+use expansions::families::Family;
+use expansions::families::weights_of;
 
 // The literal count of each of the eight terms.
 const LITERALS: [u8; 8] = [0, 1, 1, 2, 1, 2, 2, 3];
@@ -95,16 +100,27 @@ fn literals_outside(j: usize) -> u32
     literals[j & 7] as u32 + literals[(j >> 3) & 7] as u32 + literals[(j >> 6) & 7] as u32
 }
 
-// The first least of the 2^k polarities of block j, from the block functions.
-pub fn cheapest_block(rows: &[u64; 256], k: usize, lanes: &[u8], j: usize) -> Cheapest
-    requires { ⌜ (now rows ≡ blockRows) × (k ≤ 3) × (j < 256) × (j * 8 + 8 ≤ length (now lanes)) ⌝ }
-    ensures { λ c. ⌜ IsCheapest k (λ φ. usedCharge (ones j) (usedAt (at (now (lanes .entry))) j φ)) c ⌝ }
+// What a block costs by the family's rule, where its small sum is `sum` and each of its terms has `more` literals outside the mixed set: each product
+// with these literals, and the literals in the block.
+fn sum_charge(family: Family, more: u32, sum: u32) -> u32
+    requires { ⌜ (more ≤ 8) × (sum < 256) ⌝ }
+    ensures { λ r. ⌜ r ≡ sumCharge (ruleOf family) more sum ⌝ }
+{
+    let weights = weights_of(family);
+    (sum >> 4) * (weights.product + more * weights.literal) + (sum & 15) * weights.literal
+}
+
+// The first least of the 2^k polarities of block j, from the block functions, and what the block costs under it.
+pub fn cheapest_block(rows: &[u64; 256], sizes: Sizes, lanes: &[u8], j: usize) -> Cheapest
+    requires { ⌜ (now rows ≡ blockRows) × (j < 256) × (j * 8 + 8 ≤ length (now lanes)) ⌝ }
+    requires { ⌜ Limits sizes ⌝ }
+    ensures { λ c. ⌜ IsCheapest (sizes .k) (chargeFrom (sizes .family) (at (now (lanes .entry))) j) c ⌝ }
 {
     let used = used_terms(rows, lanes, j);
-    let least = least_sum(k, small_sums(used));
-    let more = literals_outside(j);
+    let least = least_sum(sizes.k, small_sums(used));
+    let family = sizes.family;
     Cheapest {
-        charge: (least.sum >> 4) * (4096 + more) + (least.sum & 15),
+        charge: sum_charge(family, literals_outside(j), least.sum),
         polarity: least.polarity,
     }
 }

@@ -1,9 +1,11 @@
-// The numbers that the search carries with it.
+// What the search carries with it.
+use expansions::families::Family;
 
-// How many inputs the table has, and how many of them are mixed.
+// How many inputs the table has, how many of them are mixed, and the family by whose rule an expansion is charged.
 pub struct Sizes {
     pub n: usize,
     pub k: usize,
+    pub family: Family,
 }
 
 impl Sizes {

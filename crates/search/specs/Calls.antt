@@ -7,6 +7,7 @@ use lib.Dec.{eqb}
 use lib.ListN.{length}
 use Rattle.numbers.specs.Bytes.{at, tabulate, allBelow}
 use Rattle.numbers.specs.Refusals.{unless, orElse, unlessRefused, sizesRefusal}
+use Rattle.expansions.specs.declared.families.Family.the-variants.{One}
 use Rattle.expansions.specs.Answers.{Minimal, answerPolarity, answerCoefficient}
 use Rattle.search.specs.Expansion.{answerExpansion}
 use Rattle.search.specs.declared.expansion.Expansion.{Expansion}
@@ -29,12 +30,13 @@ minimised zero e = Found (e .mixed) (e .fixed) (e .products) (e .literals)
 minimised (suc x) e = Refused (suc x) 0
 
 -- "The binary minimising call takes n, m, k and a table. It fills 2^n coefficient bytes and 2^(n−k) block bytes, and returns M, i, products
--- and literals." The two buffers hold c and b when it is called, and c′ and b′ when it returns.
+-- and literals." Document 02, W-203: "the binary call keeps to family one". The two buffers hold c and b when it is called, and c′ and b′ when it
+-- returns.
 pub record Minimise (n m k : ℕ) (table c c′ b b′ : List ℕ) (r : Minimised) : Type 0 where
-  pub answer : r ≡ minimised (minimiseRefusal n m k table (length c) (length b)) (answerExpansion n k (at table))
-  pub coefficients : c′ ≡ unlessRefused (minimiseRefusal n m k table (length c) (length b)) (tabulate (2 ^ n) (answerCoefficient n k (at table))) c
-  pub blocks : b′ ≡ unlessRefused (minimiseRefusal n m k table (length c) (length b)) (tabulate (2 ^ (n - k)) (answerPolarity n k (at table))) b
+  pub answer : r ≡ minimised (minimiseRefusal n m k table (length c) (length b)) (answerExpansion One n k (at table))
+  pub coefficients : c′ ≡ unlessRefused (minimiseRefusal n m k table (length c) (length b)) (tabulate (2 ^ n) (answerCoefficient One n k (at table))) c
+  pub blocks : b′ ≡ unlessRefused (minimiseRefusal n m k table (length c) (length b)) (tabulate (2 ^ (n - k)) (answerPolarity One n k (at table))) b
   -- the returned numbers and the bytes now in the buffers are a member that gives the table at every point, and no member comes before it
-  pub meaning : (M i p l : ℕ) → r ≡ Found M i p l → Minimal n k (at table) M i (at b′) (at c′) p l
+  pub meaning : (M i p l : ℕ) → r ≡ Found M i p l → Minimal One n k (at table) M i (at b′) (at c′) p l
   -- "bits m to 7 zero"
   pub outputs : (M i p l : ℕ) → r ≡ Found M i p l → (t : ℕ) → t < 2 ^ n → at c′ t < 2 ^ m

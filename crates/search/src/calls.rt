@@ -7,6 +7,7 @@ ghost use Rattle.numbers.specs.Bytes.{at, tabulate};
 ghost use Rattle.search.specs.Calls.{minimiseRefusal, Minimise};
 use crate::answer::find_answer;
 use crate::expansion::Expansion;
+use expansions::families::Family;
 use numbers::refusals::judge_sizes;
 use numbers::refusals::within_outputs;
 
@@ -66,7 +67,7 @@ fn copy_places(places: &[u8; Expansion::PLACES], lent: &mut [u8])
     }
 }
 
-// Takes n, m, k and a table of 2^n bytes, and finds the first least member that gives the table. It fills `coefficients`, 2^n bytes, and
+// Takes n, m, k and a table of 2^n bytes, and finds the first least member, as family one compares, that gives the table. It fills `coefficients`, 2^n bytes, and
 // `blocks`, 2^(n−k) bytes, and returns M, i, products and literals. Refuses n or m outside 1 to 8, k above 3 or above n, another length of
 // a buffer, and a byte with a bit at m or above.
 pub fn minimise(
@@ -83,7 +84,7 @@ pub fn minimise(
     if number != 0 {
         return Minimised::Refused { number, line: 0 };
     }
-    let found = find_answer(n, m, k, table);
+    let found = find_answer(Family::One, n, m, k, table);
     let places = found.coefficients;
     copy_places(&places, coefficients);
     let polarities = found.blocks;

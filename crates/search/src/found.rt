@@ -9,6 +9,7 @@ ghost use Rattle.search.specs.Expansion.{answerExpansion};
 ghost use Rattle.search.specs.inner.Search.{Given, polarityAt, Leads};
 use crate::expansion::Expansion;
 use crate::pairs::Leader;
+use expansions::families::counts_in;
 use lanes::charges::cheapest_block;
 use lanes::expand::expand_blocks;
 use lanes::sizes::Pair;
@@ -20,13 +21,13 @@ fn polarity_at(rows: &[u64; 256], sizes: Sizes, lanes: &[u8], j: usize) -> u8
     requires { ⌜ now rows ≡ blockRows ⌝ }
     requires { ⌜ Limits sizes ⌝ }
     requires { ⌜ length (now lanes) ≡ 8 * 2 ^ (sizes .n - sizes .k) ⌝ }
-    ensures { λ φ. ⌜ φ ≡ polarityAt (sizes .n) (sizes .k) (at (now (lanes .entry))) j ⌝ }
+    ensures { λ φ. ⌜ φ ≡ polarityAt (sizes .family) (sizes .n) (sizes .k) (at (now (lanes .entry))) j ⌝ }
 {
     let count: usize = 1 << (sizes.n - sizes.k);
     if count <= j {
         return 0;
     }
-    let least = cheapest_block(rows, sizes.k, lanes, j);
+    let least = cheapest_block(rows, sizes, lanes, j);
     least.polarity
 }
 
@@ -35,7 +36,7 @@ fn polarities(rows: &[u64; 256], sizes: Sizes, lanes: &[u8]) -> [u8; Expansion::
     requires { ⌜ now rows ≡ blockRows ⌝ }
     requires { ⌜ Limits sizes ⌝ }
     requires { ⌜ length (now lanes) ≡ 8 * 2 ^ (sizes .n - sizes .k) ⌝ }
-    ensures { λ φ. ⌜ φ ≡ tabulate 256 (polarityAt (sizes .n) (sizes .k) (at (now (lanes .entry)))) ⌝ }
+    ensures { λ φ. ⌜ φ ≡ tabulate 256 (polarityAt (sizes .family) (sizes .n) (sizes .k) (at (now (lanes .entry)))) ⌝ }
 {
     let mut all = [0u8; Expansion::PLACES];
     let mut j: usize = 0;
@@ -51,8 +52,8 @@ pub fn expansion_of(rows: &[u64; 256], sizes: Sizes, table: &[u8], leader: Leade
     requires { ⌜ now rows ≡ blockRows ⌝ }
     requires { ⌜ Limits sizes ⌝ }
     requires { ⌜ Given (sizes .n) (now table) ⌝ }
-    requires { ⌜ Leads (sizes .n) (sizes .k) (at (now table)) (2 ^ sizes .n * 2 ^ sizes .n) leader ⌝ }
-    ensures { λ e. ⌜ e ≡ answerExpansion (sizes .n) (sizes .k) (at (now (table .entry))) ⌝ }
+    requires { ⌜ Leads (sizes .family) (sizes .n) (sizes .k) (at (now table)) (2 ^ sizes .n * 2 ^ sizes .n) leader ⌝ }
+    ensures { λ e. ⌜ e ≡ answerExpansion (sizes .family) (sizes .n) (sizes .k) (at (now (table .entry))) ⌝ }
 {
     let all: usize = 1 << sizes.n;
     let mixed = leader.pair >> sizes.n;
@@ -62,12 +63,14 @@ pub fn expansion_of(rows: &[u64; 256], sizes: Sizes, table: &[u8], leader: Leade
     expand_blocks(sizes, Pair { mixed, fixed }, table, &mut lanes[..room]);
     let chosen = polarities(rows, sizes, &lanes[..room]);
     let filled = coefficients(rows, sizes, mixed, &lanes[..room], &chosen);
+    let family = sizes.family;
+    let counts = counts_in(family, leader.charge);
     let mut found = Expansion::empty(sizes.k);
     found.coefficients = filled;
     found.blocks = chosen;
     found.mixed = mixed;
     found.fixed = fixed;
-    found.products = (leader.charge / 4096) as usize;
-    found.literals = (leader.charge % 4096) as usize;
+    found.products = counts.products;
+    found.literals = counts.literals;
     found
 }

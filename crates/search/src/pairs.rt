@@ -30,13 +30,13 @@ fn pair_charge(rows: &[u64; 256], sizes: Sizes, lanes: &[u8]) -> u32
     requires { ⌜ now rows ≡ blockRows ⌝ }
     requires { ⌜ Limits sizes ⌝ }
     requires { ⌜ length (now lanes) ≡ 8 * 2 ^ (sizes .n - sizes .k) ⌝ }
-    ensures { λ c. ⌜ c ≡ pairCharge (sizes .n) (sizes .k) (chargeFrom (at (now (lanes .entry)))) ⌝ }
+    ensures { λ c. ⌜ c ≡ pairCharge (sizes .n) (sizes .k) (chargeFrom (sizes .family) (at (now (lanes .entry)))) ⌝ }
 {
     let count: usize = 1 << (sizes.n - sizes.k);
     let mut sum: u32 = 0;
     let mut j: usize = 0;
     while j < count {
-        let least = cheapest_block(rows, sizes.k, lanes, j);
+        let least = cheapest_block(rows, sizes, lanes, j);
         sum += least.charge;
         j += 1;
     }
@@ -55,7 +55,7 @@ fn try_polarity(
     requires { ⌜ now rows ≡ blockRows ⌝ }
     requires { ⌜ Limits sizes ⌝ }
     requires { ⌜ (mixed < 2 ^ sizes .n) × (length (now lanes) ≡ 8 * 2 ^ (sizes .n - sizes .k)) ⌝ }
-    ensures { λ l. ⌜ l ≡ ledBy (pairCharge (sizes .n) (sizes .k) (chargeFrom (at (now (lanes .entry))))) (pairOf (sizes .n) mixed w) leader ⌝ }
+    ensures { λ l. ⌜ l ≡ ledBy (pairCharge (sizes .n) (sizes .k) (chargeFrom (sizes .family) (at (now (lanes .entry))))) (pairOf (sizes .n) mixed w) leader ⌝ }
 {
     let charge = pair_charge(rows, sizes, lanes);
     if charge < leader.charge {
@@ -81,8 +81,8 @@ fn try_polarities(
     requires { ⌜ Limits sizes ⌝ }
     requires { ⌜ Given (sizes .n) (now table) ⌝ }
     requires { ⌜ MixedSet sizes mixed × (length (now lanes) ≡ 8 * 2 ^ (sizes .n - sizes .k)) ⌝ }
-    requires { ⌜ Leads (sizes .n) (sizes .k) (at (now table)) (mixed * 2 ^ sizes .n) leader ⌝ }
-    ensures { λ l. ⌜ Leads (sizes .n) (sizes .k) (at (now (table .entry))) (suc mixed * 2 ^ sizes .n) l ⌝ }
+    requires { ⌜ Leads (sizes .family) (sizes .n) (sizes .k) (at (now table)) (mixed * 2 ^ sizes .n) leader ⌝ }
+    ensures { λ l. ⌜ Leads (sizes .family) (sizes .n) (sizes .k) (at (now (table .entry))) (suc mixed * 2 ^ sizes .n) l ⌝ }
 {
     expand_blocks(sizes, Pair { mixed, fixed: 0 }, table, lanes);
     let r = sizes.n - sizes.k;
@@ -103,8 +103,8 @@ fn try_mixed(rows: &[u64; 256], sizes: Sizes, mixed: usize, table: &[u8], leader
     requires { ⌜ now rows ≡ blockRows ⌝ }
     requires { ⌜ Limits sizes ⌝ }
     requires { ⌜ Given (sizes .n) (now table) ⌝ }
-    requires { ⌜ (mixed < 2 ^ sizes .n) × Leads (sizes .n) (sizes .k) (at (now table)) (mixed * 2 ^ sizes .n) leader ⌝ }
-    ensures { λ l. ⌜ Leads (sizes .n) (sizes .k) (at (now (table .entry))) (suc mixed * 2 ^ sizes .n) l ⌝ }
+    requires { ⌜ (mixed < 2 ^ sizes .n) × Leads (sizes .family) (sizes .n) (sizes .k) (at (now table)) (mixed * 2 ^ sizes .n) leader ⌝ }
+    ensures { λ l. ⌜ Leads (sizes .family) (sizes .n) (sizes .k) (at (now (table .entry))) (suc mixed * 2 ^ sizes .n) l ⌝ }
 {
     if ones_in(sizes.n, mixed) != sizes.k {
         return leader;
@@ -119,7 +119,7 @@ pub fn first_least(rows: &[u64; 256], sizes: Sizes, table: &[u8]) -> Leader
     requires { ⌜ now rows ≡ blockRows ⌝ }
     requires { ⌜ Limits sizes ⌝ }
     requires { ⌜ Given (sizes .n) (now table) ⌝ }
-    ensures { λ l. ⌜ Leads (sizes .n) (sizes .k) (at (now (table .entry))) (2 ^ sizes .n * 2 ^ sizes .n) l ⌝ }
+    ensures { λ l. ⌜ Leads (sizes .family) (sizes .n) (sizes .k) (at (now (table .entry))) (2 ^ sizes .n * 2 ^ sizes .n) l ⌝ }
 {
     let all: usize = 1 << sizes.n;
     let mut led = Leader {

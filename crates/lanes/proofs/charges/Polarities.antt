@@ -12,16 +12,17 @@ use Rattle.numbers.specs.Words.{word, byte}
 use Rattle.numbers.proofs.Shifts.{one-shifted}
 use Rattle.numbers.proofs.Words.{word-byte, byte-zero, byte-lt}
 use Rattle.expansions.specs.Answers.{leastPolarity}
-use Rattle.expansions.specs.Costs.{weight}
+use Rattle.expansions.specs.declared.families.Family.{Family}
+use Rattle.expansions.specs.Rules.{ruleOf}
 use Rattle.expansions.specs.Least.{better, firstLeast}
 use Rattle.expansions.specs.inner.Charges.{smallSum, sumCharge}
 use Rattle.expansions.specs.inner.Leading.{Leading}
 use Rattle.expansions.proofs.Least.{leading-take, leading-keep, leading-chosen}
-use Rattle.expansions.proofs.Minimal.{polarity-first}
+use Rattle.expansions.proofs.Rules.{rule-steep}
 use Rattle.expansions.proofs.SmallSums.{smallSum-le, leastPolarity-sums, sumCharge-least}
 use Rattle.lanes.specs.inner.Charges.{usedAt, IsLeastSum, IsCheapest, chargeFrom}
 use Rattle.lanes.specs.declared.charges.LeastSum.{LeastSum}
-use Rattle.lanes.proofs.charges.Used.{usedAt-lt, chargeFrom-le}
+use Rattle.lanes.proofs.charges.Used.{usedAt-lt}
 
 -- the bytes of the word, which are below 256
 abbrev bytes : ℕ → ℕ → ℕ
@@ -97,9 +98,13 @@ tried-all k sums count least rest left h t =
     let d = leading-chosen 256 (λ φ. true) (bytes sums) (2 ^ k) (least .sum) (least .polarity) (rw e at (t .best)) 0 (pow-pos k) tt in
     record { polarity = d .0; sum = d .1 }
 
+-- a byte of the word
+pub least-lt : (k sums : ℕ) (least : LeastSum) → IsLeastSum k sums least → least .sum < 256
+least-lt k sums least is = omega (arith, is .sum, byte-lt (leastPolarity k (bytes sums)) sums)
+
 -- ---- the block's cost, from the least sum
 
-module _ (lanes : ℕ → ℕ) (k j used sums more : ℕ) (least : LeastSum) (hk : k ≤ 3) (hj : j < 256) (eu : used ≡ word 8 (usedAt lanes j))
+module _ (F : Family) (lanes : ℕ → ℕ) (k j used sums more : ℕ) (least : LeastSum) (hk : k ≤ 3) (eu : used ≡ word 8 (usedAt lanes j))
     (es : sums ≡ word 8 (λ φ. smallSum (byte φ used))) (em : more ≡ ones j) (is : IsLeastSum k sums least) where
   eight : 2 ^ k ≤ 2 ^ 3
   eight = pow-mono hk
@@ -112,18 +117,12 @@ module _ (lanes : ℕ → ℕ) (k j used sums more : ℕ) (least : LeastSum) (hk
   used-small : (φ : ℕ) → φ < 2 ^ k → usedAt lanes j φ < 2 ^ 8
   used-small φ h = usedAt-lt lanes j φ (omega (arith, eight))
 
-  -- the charge as code computes it from the sum
-  abbrev cost : ℕ
-  cost = least .sum / 16 * (4096 + more) + bitAnd (least .sum) 15
-
-  cost-is : cost ≡ chargeFrom lanes j (leastPolarity k (chargeFrom lanes j))
-  unfolding sumCharge weight
-  cost-is =
-      ap₂ (λ (x y : ℕ). least .sum / 16 * (4096 + x) + y) em (and-mask (least .sum) 4) ∙ ap (sumCharge (ones j)) (is .sum)
-      ∙ sumCharge-least k (ones j) (bytes sums) (usedAt lanes j) used-small sum-of
-
-  pub cost-le : cost ≤ 8 * weight 11
-  cost-le = rw cost-is (chargeFrom-le lanes j _ hj (omega (arith, eight, polarity-first k (chargeFrom lanes j) .below)))
-
-  pub cheapest-sum : IsCheapest k (chargeFrom lanes j) (record { charge = cost; polarity = least .polarity })
-  cheapest-sum = record { polarity = is .polarity ∙ leastPolarity-sums k (ones j) (bytes sums) (usedAt lanes j) used-small sum-of; charge = cost-is }
+  pub cheapest-sum : (charge : ℕ) → charge ≡ sumCharge (ruleOf F) more (least .sum)
+      → IsCheapest k (chargeFrom F lanes j) (record { charge = charge; polarity = least .polarity })
+  cheapest-sum charge e =
+      record {
+        polarity = is .polarity ∙ leastPolarity-sums (ruleOf F) (rule-steep F) k (ones j) (bytes sums) (usedAt lanes j) used-small sum-of;
+        charge =
+            e ∙ ap₂ (sumCharge (ruleOf F)) em (is .sum)
+            ∙ sumCharge-least (ruleOf F) (rule-steep F) k (ones j) (bytes sums) (usedAt lanes j) used-small sum-of;
+      }

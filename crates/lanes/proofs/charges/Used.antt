@@ -13,8 +13,10 @@ use Rattle.numbers.specs.Words.{word}
 use Rattle.numbers.proofs.Bytes.{at-tabulate}
 use Rattle.numbers.proofs.Words.{word-zero, word-or}
 use Rattle.expansions.specs.BlockTable.{entry, row, blockRows}
-use Rattle.expansions.specs.Costs.{weight}
+use Rattle.expansions.specs.declared.families.Family.{Family}
+use Rattle.expansions.specs.Rules.{ruleOf}
 use Rattle.expansions.specs.inner.Charges.{literalCount}
+use Rattle.expansions.proofs.Rules.{weight-small}
 use Rattle.expansions.proofs.BlockTable.{entry-lt, entries-lt}
 use Rattle.expansions.proofs.Charges.{literalCount-ones, literalCount-le, usedCharge-le}
 use Rattle.lanes.specs.inner.Charges.{usedAt, chargeFrom}
@@ -45,8 +47,9 @@ pub usedAt-lt : (lanes : ℕ → ℕ) (j φ : ℕ) → φ < 8 → usedAt lanes j
 unfolding usedAt
 usedAt-lt lanes j φ h = entries-lt 8 φ (λ o. lanes (j * 8 + o)) h
 
-pub chargeFrom-le : (lanes : ℕ → ℕ) (j φ : ℕ) → j < 256 → φ < 8 → chargeFrom lanes j φ ≤ 8 * weight 11
-chargeFrom-le lanes j φ hj h = usedCharge-le (ones j) (usedAt lanes j φ) (ones-le 8 j hj) (usedAt-lt lanes j φ h)
+pub chargeFrom-le : (F : Family) (lanes : ℕ → ℕ) (j φ : ℕ) → j < 256 → φ < 8 → chargeFrom F lanes j φ ≤ 77824
+chargeFrom-le F lanes j φ hj h =
+    omega (arith, usedCharge-le (ruleOf F) (ones j) (usedAt lanes j φ) (ones-le 8 j hj) (usedAt-lt lanes j φ h), weight-small F 11)
 
 -- ---- literals outside the mixed set
 

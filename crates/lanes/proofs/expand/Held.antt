@@ -13,6 +13,7 @@ use Rattle.numbers.proofs.Sums.{fold-ext}
 use Rattle.algebra.specs.Coefficients.{coefficient}
 use Rattle.expansions.specs.Answers.{blockFunction, blockCharge, leastPolarity, pairCharge}
 use Rattle.expansions.specs.BlockTable.{entry}
+use Rattle.expansions.specs.Rules.{ruleOf}
 use Rattle.expansions.specs.Split.{gather, outside, join}
 use Rattle.expansions.specs.inner.Charges.{usedCharge}
 use Rattle.expansions.specs.inner.Planes.{plane}
@@ -50,17 +51,17 @@ module _ (s : Sizes) (M i : ℕ) (f : ℕ → ℕ) (lanes : List ℕ) (limits : 
   unfolding usedAt used
   held-used j φ h = fold-ext bitOr 8 _ _ (λ o l. ap (λ (g : ℕ). entry g φ) (held-plane o j l h))
 
-  pub held-charge : (j φ : ℕ) → j < 2 ^ (s .n - s .k) → φ < 2 ^ s .k → chargeFrom (at lanes) j φ ≡ blockCharge (s .n) (s .k) f M i j φ
+  pub held-charge : (j φ : ℕ) → j < 2 ^ (s .n - s .k) → φ < 2 ^ s .k → chargeFrom (s .family) (at lanes) j φ ≡ blockCharge (ruleOf (s .family)) (s .n) (s .k) f M i j φ
   unfolding usedCharge
   held-charge j φ hj hφ =
-      ap (usedCharge (ones j)) (held-used j φ hj) ∙ sym (blockCharge-byte 8 (s .n) (s .k) f M i j φ (limits .mixed) hφ (set .size) outputs)
+      ap (usedCharge (ruleOf (s .family)) (ones j)) (held-used j φ hj) ∙ sym (blockCharge-byte (ruleOf (s .family)) 8 (s .n) (s .k) f M i j φ (limits .mixed) hφ (set .size) outputs)
 
-  pub held-polarity : (j : ℕ) → j < 2 ^ (s .n - s .k) → leastPolarity (s .k) (chargeFrom (at lanes) j) ≡ leastPolarity (s .k) (blockCharge (s .n) (s .k) f M i j)
-  held-polarity j h = leastPolarity-ext (s .k) _ (blockCharge (s .n) (s .k) f M i j) (λ φ l. held-charge j φ h l)
+  pub held-polarity : (j : ℕ) → j < 2 ^ (s .n - s .k) → leastPolarity (s .k) (chargeFrom (s .family) (at lanes) j) ≡ leastPolarity (s .k) (blockCharge (ruleOf (s .family)) (s .n) (s .k) f M i j)
+  held-polarity j h = leastPolarity-ext (s .k) _ (blockCharge (ruleOf (s .family)) (s .n) (s .k) f M i j) (λ φ l. held-charge j φ h l)
 
-  pub held-pair : pairCharge (s .n) (s .k) (chargeFrom (at lanes)) ≡ pairCharge (s .n) (s .k) (blockCharge (s .n) (s .k) f M i)
-  held-pair = pairCharge-ext (s .n) (s .k) _ (blockCharge (s .n) (s .k) f M i) held-charge
+  pub held-pair : pairCharge (s .n) (s .k) (chargeFrom (s .family) (at lanes)) ≡ pairCharge (s .n) (s .k) (blockCharge (ruleOf (s .family)) (s .n) (s .k) f M i)
+  held-pair = pairCharge-ext (s .n) (s .k) _ (blockCharge (ruleOf (s .family)) (s .n) (s .k) f M i) held-charge
 
 -- a pair costs less than the charge that stands for no pair, 2 ^ 32 - 1
-pub pairCharge-lt : (s : Sizes) (f : ℕ → ℕ) (M i : ℕ) → Limits s → pairCharge (s .n) (s .k) (blockCharge (s .n) (s .k) f M i) < 2 ^ 31
-pairCharge-lt s f M i limits = pairCharge-small (s .n) (s .k) f M i (limits .inputs) (limits .mixed) (limits .within)
+pub pairCharge-lt : (s : Sizes) (f : ℕ → ℕ) (M i : ℕ) → Limits s → pairCharge (s .n) (s .k) (blockCharge (ruleOf (s .family)) (s .n) (s .k) f M i) < 2 ^ 31
+pairCharge-lt s f M i limits = pairCharge-small (s .family) (s .n) (s .k) f M i (limits .inputs) (limits .mixed) (limits .within)

@@ -8,6 +8,8 @@ use Rattle.numbers.specs.Sums.{foldBelow}
 use Rattle.numbers.specs.Words.{byte}
 use Rattle.expansions.specs.Answers.{leastPolarity}
 use Rattle.expansions.specs.BlockTable.{entry}
+use Rattle.expansions.specs.declared.families.Family.{Family}
+use Rattle.expansions.specs.Rules.{ruleOf}
 use Rattle.expansions.specs.inner.Charges.{usedCharge}
 use Rattle.lanes.specs.declared.charges.LeastSum.{LeastSum}
 use Rattle.lanes.specs.declared.charges.Cheapest.{Cheapest}
@@ -16,9 +18,9 @@ use Rattle.lanes.specs.declared.charges.Cheapest.{Cheapest}
 unfoldable pub usedAt : (ℕ → ℕ) → ℕ → ℕ → ℕ
 usedAt lanes j φ = foldBelow bitOr 8 (λ o. entry (lanes (j * 8 + o)) φ)
 
--- what block j costs under φ, from the block functions
-abbrev pub chargeFrom : (ℕ → ℕ) → ℕ → ℕ → ℕ
-chargeFrom lanes j φ = usedCharge (ones j) (usedAt lanes j φ)
+-- what block j costs under φ by a family's rule, from the block functions
+abbrev pub chargeFrom : Family → (ℕ → ℕ) → ℕ → ℕ → ℕ
+chargeFrom F lanes j φ = usedCharge (ruleOf F) (ones j) (usedAt lanes j φ)
 
 -- the first of the least of the first 2 ^ k bytes of a word
 pub record IsLeastSum (k sums : ℕ) (r : LeastSum) : Type 0 where

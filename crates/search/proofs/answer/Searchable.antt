@@ -11,6 +11,7 @@ use lib.Pow.{pow-pos, pow-mono}
 use Rattle.numbers.specs.Bytes.{at, allBelow}
 use Rattle.numbers.proofs.Tests.{same-test, both-left, both-right}
 use Rattle.numbers.proofs.refusals.Outputs.{below-at}
+use Rattle.expansions.specs.declared.families.Family.{Family}
 use Rattle.search.specs.Expansion.{answerExpansion, searchable, searched}
 use Rattle.lanes.specs.inner.Sizes.{Limits}
 use Rattle.search.specs.inner.Search.{Given}
@@ -31,8 +32,8 @@ module _ (n m k : ℕ) (table : List ℕ) (e : searchable n m k table ≡ true) 
   sized : Sized n m k
   sized = sizes-none n m k (eqb-true (sizesRefusal n m k) 0 sizes)
 
-  pub allowed-sizes : Limits (record { n = n; k = k })
-  allowed-sizes = record { inputs = sized .inputs .1; mixed = sized .mixed .0; within = sized .mixed .1 }
+  pub allowed-sizes : (F : Family) → Limits (record { n = n; k = k; family = F })
+  allowed-sizes F = record { inputs = sized .inputs .1; mixed = sized .mixed .0; within = sized .mixed .1 }
 
   outputs : (p : ℕ) → at table p < 2 ^ m
   outputs = below-at (2 ^ m) table (pow-pos m) (rw (both-right (eqb (length table) (2 ^ n)) _ bytes) tt)
@@ -47,8 +48,8 @@ module _ (n m k : ℕ) (table : List ℕ) (e : searchable n m k table ≡ true) 
 
 -- ---- to the answer
 
-pub searched-answer : (n m k : ℕ) (table : List ℕ) → Sized n m k → length table ≡ 2 ^ n → T (allBelow (2 ^ m) table)
-    → searched n m k table ≡ answerExpansion n k (at table)
+pub searched-answer : (F : Family) (n m k : ℕ) (table : List ℕ) → Sized n m k → length table ≡ 2 ^ n → T (allBelow (2 ^ m) table)
+    → searched F n m k table ≡ answerExpansion F n k (at table)
 unfolding searched searchable
-searched-answer n m k table sized long clean =
+searched-answer F n m k table sized long clean =
     rw (sizes-accepted n m k sized, eq-eqb (length table) (2 ^ n) long, same-test (allBelow (2 ^ m) table) true (λ t. tt) (λ t. clean))

@@ -10,6 +10,7 @@ use Rattle.numbers.specs.Bytes.{at, tabulate}
 use Rattle.numbers.proofs.Bytes.{tabulate-ext}
 use Rattle.numbers.proofs.refusals.Outputs.{below-at}
 use Rattle.numbers.proofs.refusals.Judging.{kept}
+use Rattle.expansions.specs.declared.families.Family.the-variants.{One}
 use Rattle.expansions.specs.Answers.{Minimal, answerPolarity, answerCoefficient}
 use Rattle.search.specs.Expansion.{answerExpansion}
 use Rattle.search.specs.Calls.{minimiseRefusal, minimised, Minimise}
@@ -23,31 +24,31 @@ use Rattle.search.proofs.calls.Judging.{Accepted, refusal-none}
 
 module _ (n m k : ℕ) (table c b : List ℕ) (a : Accepted n m k table (length c) (length b)) where
   abbrev filledCoefficients : List ℕ
-  filledCoefficients = tabulate (2 ^ n) (answerCoefficient n k (at table))
+  filledCoefficients = tabulate (2 ^ n) (answerCoefficient One n k (at table))
 
   abbrev filledBlocks : List ℕ
-  filledBlocks = tabulate (2 ^ (n - k)) (answerPolarity n k (at table))
+  filledBlocks = tabulate (2 ^ (n - k)) (answerPolarity One n k (at table))
 
-  copied-coefficients : tabulate (length c) (at (answerExpansion n k (at table) .coefficients)) ≡ filledCoefficients
-  copied-coefficients = rw (a .coefficients-long) (tabulate-ext (2 ^ n) _ _ (λ t l. expansion-coefficients n k (at table) (a .sized .inputs .1) t))
+  copied-coefficients : tabulate (length c) (at (answerExpansion One n k (at table) .coefficients)) ≡ filledCoefficients
+  copied-coefficients = rw (a .coefficients-long) (tabulate-ext (2 ^ n) _ _ (λ t l. expansion-coefficients One n k (at table) (a .sized .inputs .1) t))
 
-  copied-blocks : tabulate (length b) (at (answerExpansion n k (at table) .blocks)) ≡ filledBlocks
-  copied-blocks = rw (a .blocks-long) (tabulate-ext (2 ^ (n - k)) _ _ (λ j l. expansion-blocks n k (at table) (a .sized .inputs .1) j))
+  copied-blocks : tabulate (length b) (at (answerExpansion One n k (at table) .blocks)) ≡ filledBlocks
+  copied-blocks = rw (a .blocks-long) (tabulate-ext (2 ^ (n - k)) _ _ (λ j l. expansion-blocks One n k (at table) (a .sized .inputs .1) j))
 
-  filled-minimal : Minimal n k (at table) (answerExpansion n k (at table) .mixed) (answerExpansion n k (at table) .fixed) (at filledBlocks) (at filledCoefficients)
-      (answerExpansion n k (at table) .products) (answerExpansion n k (at table) .literals)
+  filled-minimal : Minimal One n k (at table) (answerExpansion One n k (at table) .mixed) (answerExpansion One n k (at table) .fixed) (at filledBlocks) (at filledCoefficients)
+      (answerExpansion One n k (at table) .products) (answerExpansion One n k (at table) .literals)
   unfolding answerExpansion
   filled-minimal =
-      rw (at-coefficients n k (at table) (2 ^ n) (omega arith), at-blocks n k (at table) (2 ^ (n - k)) (omega arith))
-      (answer-minimal n k (at table) (a .sized .inputs .1) (a .sized .mixed .1))
+      rw (at-coefficients One n k (at table) (2 ^ n) (omega arith), at-blocks One n k (at table) (2 ^ (n - k)) (omega arith))
+      (answer-minimal One n k (at table) (a .sized .inputs .1) (a .sized .mixed .1))
 
   filled-outputs : (t : ℕ) → at filledCoefficients t < 2 ^ m
   filled-outputs t =
-      rw (ap (λ (g : ℕ → ℕ). g t) (at-coefficients n k (at table) (2 ^ n) (omega arith)))
-      (answer-coefficient-lt n k (at table) (a .sized .mixed .1) m (λ p l. below-at (2 ^ m) table (pow-pos m) (a .clean) p) t)
+      rw (ap (λ (g : ℕ → ℕ). g t) (at-coefficients One n k (at table) (2 ^ n) (omega arith)))
+      (answer-coefficient-lt One n k (at table) (a .sized .mixed .1) m (λ p l. below-at (2 ^ m) table (pow-pos m) (a .clean) p) t)
 
 pub minimise-found : (n m k : ℕ) (table c c′ b b′ : List ℕ) (e : Expansion) → minimiseRefusal n m k table (length c) (length b) ≡ 0
-    → e ≡ answerExpansion n k (at table) → c′ ≡ tabulate (length c) (at (e .coefficients)) → b′ ≡ tabulate (length b) (at (e .blocks))
+    → e ≡ answerExpansion One n k (at table) → c′ ≡ tabulate (length c) (at (e .coefficients)) → b′ ≡ tabulate (length b) (at (e .blocks))
     → Minimise n m k table c c′ b b′ (Found (e .mixed) (e .fixed) (e .products) (e .literals))
 unfolding minimised
 minimise-found n m k table c c′ b b′ e none is copied-c copied-b =
@@ -62,18 +63,18 @@ minimise-found n m k table c c′ b b′ e none is copied-c copied-b =
     a : Accepted n m k table (length c) (length b)
     a = refusal-none n m k table (length c) (length b) none
 
-    full-c : c′ ≡ tabulate (2 ^ n) (answerCoefficient n k (at table))
+    full-c : c′ ≡ tabulate (2 ^ n) (answerCoefficient One n k (at table))
     full-c = copied-c ∙ rw is (copied-coefficients n m k table c b a)
 
-    full-b : b′ ≡ tabulate (2 ^ (n - k)) (answerPolarity n k (at table))
+    full-b : b′ ≡ tabulate (2 ^ (n - k)) (answerPolarity One n k (at table))
     full-b = copied-b ∙ rw is (copied-blocks n m k table c b a)
 
-    minimal : Minimal n k (at table) (e .mixed) (e .fixed) (at b′) (at c′) (e .products) (e .literals)
+    minimal : Minimal One n k (at table) (e .mixed) (e .fixed) (at b′) (at c′) (e .products) (e .literals)
     minimal = rw (full-c, full-b, is) (filled-minimal n m k table c b a)
 
     -- the returned numbers are the record's
     named : (M i p l : ℕ) → Found (e .mixed) (e .fixed) (e .products) (e .literals) ≡ Found M i p l
-        → Minimal n k (at table) (e .mixed) (e .fixed) (at b′) (at c′) (e .products) (e .literals) → Minimal n k (at table) M i (at b′) (at c′) p l
+        → Minimal One n k (at table) (e .mixed) (e .fixed) (at b′) (at c′) (e .products) (e .literals) → Minimal One n k (at table) M i (at b′) (at c′) p l
     named M i p l r =
         let mixed : M ≡ e .mixed = cc in
         let fixed : i ≡ e .fixed = cc in

@@ -6,6 +6,7 @@ use native.Mathlib.Nat.{mul-le-mul}
 use native.Mathlib.Omega.{arith}
 use lib.Pow.{pow-mono}
 use Rattle.numbers.specs.Bytes.{at, tabulate}
+use Rattle.expansions.specs.declared.families.Family.{Family}
 use Rattle.expansions.specs.Answers.{answerPolarity, answerCoefficient, Minimal}
 use Rattle.search.specs.Expansion.{answerExpansion}
 use Rattle.numbers.proofs.Tables.{at-whole}
@@ -13,66 +14,66 @@ use Rattle.expansions.proofs.Costs.{products-le, literals-le}
 use Rattle.expansions.proofs.Answers.{answer-coefficient-zero, answer-polarity-zero, answer-member, answer-minimal, answer-ext, answer-coefficient-lt, answer-polarity-lt}
 use Rattle.search.specs.declared.expansion.Expansion.{Expansion}
 
--- the record holds the answer for the table f: "the member that gives the table with fewest products, .."
-abbrev pub Answered : ℕ → ℕ → (ℕ → ℕ) → Expansion → Type 0
-Answered n k f e = Minimal n k f (e .mixed) (e .fixed) (at (e .blocks)) (at (e .coefficients)) (e .products) (e .literals)
+-- the record holds the family's answer for the table f: "the member that gives the table with fewest products, .."
+abbrev pub Answered : Family → ℕ → ℕ → (ℕ → ℕ) → Expansion → Type 0
+Answered F n k f e = Minimal F n k f (e .mixed) (e .fixed) (at (e .blocks)) (at (e .coefficients)) (e .products) (e .literals)
 
 -- ---- the answer's places, in a table that holds all that are not 0
 
-pub at-coefficients : (n k : ℕ) (f : ℕ → ℕ) (N : ℕ) → 2 ^ n ≤ N → at (tabulate N (answerCoefficient n k f)) ≡ answerCoefficient n k f
-at-coefficients n k f N h = at-whole N (answerCoefficient n k f) (λ t l. answer-coefficient-zero n k f t (omega arith))
+pub at-coefficients : (F : Family) (n k : ℕ) (f : ℕ → ℕ) (N : ℕ) → 2 ^ n ≤ N → at (tabulate N (answerCoefficient F n k f)) ≡ answerCoefficient F n k f
+at-coefficients F n k f N h = at-whole N (answerCoefficient F n k f) (λ t l. answer-coefficient-zero F n k f t (omega arith))
 
-pub at-blocks : (n k : ℕ) (f : ℕ → ℕ) (N : ℕ) → 2 ^ (n - k) ≤ N → at (tabulate N (answerPolarity n k f)) ≡ answerPolarity n k f
-at-blocks n k f N h = at-whole N (answerPolarity n k f) (λ t l. answer-polarity-zero n k f t (omega arith))
+pub at-blocks : (F : Family) (n k : ℕ) (f : ℕ → ℕ) (N : ℕ) → 2 ^ (n - k) ≤ N → at (tabulate N (answerPolarity F n k f)) ≡ answerPolarity F n k f
+at-blocks F n k f N h = at-whole N (answerPolarity F n k f) (λ t l. answer-polarity-zero F n k f t (omega arith))
 
-module _ (n k : ℕ) (f : ℕ → ℕ) (hn : n ≤ 8) where
+module _ (F : Family) (n k : ℕ) (f : ℕ → ℕ) (hn : n ≤ 8) where
   -- ---- the record's places
 
-  expansion-coefficients-whole : at (answerExpansion n k f .coefficients) ≡ answerCoefficient n k f
+  expansion-coefficients-whole : at (answerExpansion F n k f .coefficients) ≡ answerCoefficient F n k f
   unfolding answerExpansion
-  expansion-coefficients-whole = at-coefficients n k f 256 (pow-mono hn)
+  expansion-coefficients-whole = at-coefficients F n k f 256 (pow-mono hn)
 
-  expansion-blocks-whole : at (answerExpansion n k f .blocks) ≡ answerPolarity n k f
+  expansion-blocks-whole : at (answerExpansion F n k f .blocks) ≡ answerPolarity F n k f
   unfolding answerExpansion
-  expansion-blocks-whole = at-blocks n k f 256 (omega (arith, pow-mono {i = n - k} {j = 8} (omega arith)))
+  expansion-blocks-whole = at-blocks F n k f 256 (omega (arith, pow-mono {i = n - k} {j = 8} (omega arith)))
 
-  pub expansion-coefficients : (t : ℕ) → at (answerExpansion n k f .coefficients) t ≡ answerCoefficient n k f t
+  pub expansion-coefficients : (t : ℕ) → at (answerExpansion F n k f .coefficients) t ≡ answerCoefficient F n k f t
   expansion-coefficients t = ap (λ (g : ℕ → ℕ). g t) expansion-coefficients-whole
 
-  pub expansion-blocks : (j : ℕ) → at (answerExpansion n k f .blocks) j ≡ answerPolarity n k f j
+  pub expansion-blocks : (j : ℕ) → at (answerExpansion F n k f .blocks) j ≡ answerPolarity F n k f j
   expansion-blocks j = ap (λ (g : ℕ → ℕ). g j) expansion-blocks-whole
 
   -- ---- bounds
 
-  pub expansion-coefficients-lt : (m : ℕ) → k ≤ n → ((p : ℕ) → p < 2 ^ n → f p < 2 ^ m) → (t : ℕ) → at (answerExpansion n k f .coefficients) t < 2 ^ m
-  expansion-coefficients-lt m hk outputs t = rw (expansion-coefficients t) (answer-coefficient-lt n k f hk m outputs t)
+  pub expansion-coefficients-lt : (m : ℕ) → k ≤ n → ((p : ℕ) → p < 2 ^ n → f p < 2 ^ m) → (t : ℕ) → at (answerExpansion F n k f .coefficients) t < 2 ^ m
+  expansion-coefficients-lt m hk outputs t = rw (expansion-coefficients t) (answer-coefficient-lt F n k f hk m outputs t)
 
-  pub expansion-blocks-lt : k ≤ n → (j : ℕ) → at (answerExpansion n k f .blocks) j < 2 ^ k
-  expansion-blocks-lt hk j = rw (expansion-blocks j) (answer-polarity-lt n k f hk j)
+  pub expansion-blocks-lt : k ≤ n → (j : ℕ) → at (answerExpansion F n k f .blocks) j < 2 ^ k
+  expansion-blocks-lt hk j = rw (expansion-blocks j) (answer-polarity-lt F n k f hk j)
 
-  pub expansion-mixed-lt : k ≤ n → answerExpansion n k f .mixed < 2 ^ n
+  pub expansion-mixed-lt : k ≤ n → answerExpansion F n k f .mixed < 2 ^ n
   unfolding answerExpansion
-  expansion-mixed-lt hk = answer-member n k f hk .mask
+  expansion-mixed-lt hk = answer-member F n k f hk .mask
 
-  pub expansion-fixed-lt : k ≤ n → answerExpansion n k f .fixed < 2 ^ n
+  pub expansion-fixed-lt : k ≤ n → answerExpansion F n k f .fixed < 2 ^ n
   unfolding answerExpansion
-  expansion-fixed-lt hk = answer-member n k f hk .fixed
+  expansion-fixed-lt hk = answer-member F n k f hk .fixed
 
-  pub expansion-products-le : answerExpansion n k f .products ≤ 256
+  pub expansion-products-le : answerExpansion F n k f .products ≤ 256
   unfolding answerExpansion
-  expansion-products-le = omega (arith, products-le n (answerCoefficient n k f), pow-mono hn)
+  expansion-products-le = omega (arith, products-le n (answerCoefficient F n k f), pow-mono hn)
 
-  pub expansion-literals-le : answerExpansion n k f .literals ≤ 1024
+  pub expansion-literals-le : answerExpansion F n k f .literals ≤ 1024
   unfolding answerExpansion
-  expansion-literals-le = omega (arith, literals-le n (answerCoefficient n k f), mul-le-mul (pow-mono hn) hn)
+  expansion-literals-le = omega (arith, literals-le n (answerCoefficient F n k f), mul-le-mul (pow-mono hn) hn)
 
   -- ---- it is the answer
 
-  pub answerExpansion-is : k ≤ n → Answered n k f (answerExpansion n k f)
+  pub answerExpansion-is : k ≤ n → Answered F n k f (answerExpansion F n k f)
   unfolding answerExpansion
-  answerExpansion-is hk = rw (expansion-coefficients-whole, expansion-blocks-whole) (answer-minimal n k f hn hk)
+  answerExpansion-is hk = rw (expansion-coefficients-whole, expansion-blocks-whole) (answer-minimal F n k f hn hk)
 
 -- only the table's values at the points count
-pub answerExpansion-ext : (n k : ℕ) (f g : ℕ → ℕ) → ((p : ℕ) → p < 2 ^ n → f p ≡ g p) → answerExpansion n k f ≡ answerExpansion n k g
+pub answerExpansion-ext : (F : Family) (n k : ℕ) (f g : ℕ → ℕ) → ((p : ℕ) → p < 2 ^ n → f p ≡ g p) → answerExpansion F n k f ≡ answerExpansion F n k g
 unfolding answerExpansion
-answerExpansion-ext n k f g e = let a = answer-ext n k f g e in rw (a .0, a .1, fun-ext (a .2), fun-ext (a .3))
+answerExpansion-ext F n k f g e = let a = answer-ext F n k f g e in rw (a .0, a .1, fun-ext (a .2), fun-ext (a .3))

@@ -12,6 +12,9 @@ use Rattle.numbers.specs.Bytes.{at}
 use Rattle.numbers.proofs.Sums.{fold-zero}
 use Rattle.numbers.proofs.Tables.{tabulate-zero}
 use Rattle.algebra.proofs.Value.{value-zero}
+use Rattle.expansions.specs.declared.families.Family.{Family}
+use Rattle.expansions.specs.declared.families.Family.the-variants.{One, Two}
+use Rattle.expansions.specs.Rules.{costOf, tieOf}
 use Rattle.expansions.specs.Costs.{counted, literals}
 use Rattle.expansions.specs.Answers.{IsAnswer, answerMixed, answerFixed, answerPolarity, answerCoefficient}
 use Rattle.search.specs.Expansion.{answerExpansion, emptyExpansion, searchable, searched}
@@ -27,37 +30,46 @@ literals-zero : (n : ℕ) → literals n (λ t. 0) ≡ 0
 unfolding literals counted
 literals-zero n = fold-zero _+_ add-assoc add-comm add-zero (2 ^ n)
 
+none-cheaper : (F : Family) (p l : ℕ) → costOf F 0 0 ≤ costOf F p l
+none-cheaper One p l = omega arith
+none-cheaper Two p l = omega arith
+
+none-tied : (F : Family) (p l : ℕ) → tieOf F 0 0 ≤ tieOf F p l
+none-tied One p l = omega arith
+none-tied Two p l = omega arith
+
 -- ---- the answer
 
-module _ (n k : ℕ) (f : ℕ → ℕ) (hn : n ≤ 8) (hk : k ≤ n) (zeros : (p : ℕ) → p < 2 ^ n → f p ≡ 0) where
-  zero-answer : IsAnswer n k f (2 ^ k - 1) 0 (λ j. 0) (λ t. 0)
+module _ (F : Family) (n k : ℕ) (f : ℕ → ℕ) (hn : n ≤ 8) (hk : k ≤ n) (zeros : (p : ℕ) → p < 2 ^ n → f p ≡ 0) where
+  zero-answer : IsAnswer F n k f (2 ^ k - 1) 0 (λ j. 0) (λ t. 0)
   zero-answer =
       record {
         member = lowest-member n k hk;
         gives = λ p h. value-zero n _ p ∙ sym (zeros p h);
         first = λ M i φ c member gives.
-            then-from _ _ (omega (arith, products-zero n)) (λ e. then-from _ _ (omega (arith, literals-zero n)) (λ e. lowest-first n k M i φ member));
+            then-from _ _ (rw (products-zero n, literals-zero n) (none-cheaper F _ _))
+            (λ e. then-from _ _ (rw (products-zero n, literals-zero n) (none-tied F _ _)) (λ e. lowest-first n k M i φ member));
       }
 
-  zero-only : (2 ^ k - 1 ≡ answerMixed n k f) × (0 ≡ answerFixed n k f)
-      × ((j : ℕ) → j < 2 ^ (n - k) → 0 ≡ answerPolarity n k f j) × ((t : ℕ) → t < 2 ^ n → 0 ≡ answerCoefficient n k f t)
-  zero-only = answer-only n k f hn hk (2 ^ k - 1) 0 (λ j. 0) (λ t. 0) zero-answer
+  zero-only : (2 ^ k - 1 ≡ answerMixed F n k f) × (0 ≡ answerFixed F n k f)
+      × ((j : ℕ) → j < 2 ^ (n - k) → 0 ≡ answerPolarity F n k f j) × ((t : ℕ) → t < 2 ^ n → 0 ≡ answerCoefficient F n k f t)
+  zero-only = answer-only F n k f hn hk (2 ^ k - 1) 0 (λ j. 0) (λ t. 0) zero-answer
 
-  polarities : answerPolarity n k f ≡ (λ j. 0)
+  polarities : answerPolarity F n k f ≡ (λ j. 0)
   polarities = fun-ext (λ j. go j (decLt j (2 ^ (n - k))))
     where
-      go : (j : ℕ) → Dec (j < 2 ^ (n - k)) → answerPolarity n k f j ≡ 0
+      go : (j : ℕ) → Dec (j < 2 ^ (n - k)) → answerPolarity F n k f j ≡ 0
       go j (yes h) = sym (zero-only .2 j h)
-      go j (no h) = answer-polarity-zero n k f j (omega arith)
+      go j (no h) = answer-polarity-zero F n k f j (omega arith)
 
-  coefficients : answerCoefficient n k f ≡ (λ t. 0)
+  coefficients : answerCoefficient F n k f ≡ (λ t. 0)
   coefficients = fun-ext (λ t. go t (decLt t (2 ^ n)))
     where
-      go : (t : ℕ) → Dec (t < 2 ^ n) → answerCoefficient n k f t ≡ 0
+      go : (t : ℕ) → Dec (t < 2 ^ n) → answerCoefficient F n k f t ≡ 0
       go t (yes h) = sym (zero-only .3 t h)
-      go t (no h) = answer-coefficient-zero n k f t (omega arith)
+      go t (no h) = answer-coefficient-zero F n k f t (omega arith)
 
-  pub answer-of-zero : answerExpansion n k f ≡ emptyExpansion k
+  pub answer-of-zero : answerExpansion F n k f ≡ emptyExpansion k
   unfolding answerExpansion emptyExpansion
   answer-of-zero =
       let small : min k 8 ≡ k = omega arith in
@@ -65,10 +77,10 @@ module _ (n k : ℕ) (f : ℕ → ℕ) (hn : n ≤ 8) (hk : k ≤ n) (zeros : (p
 
 -- ---- what the search hands up
 
-pub searched-of-zero : (n m k : ℕ) (table : List ℕ) → ((p : ℕ) → p < 2 ^ n → at table p ≡ 0) → searched n m k table ≡ emptyExpansion k
+pub searched-of-zero : (F : Family) (n m k : ℕ) (table : List ℕ) → ((p : ℕ) → p < 2 ^ n → at table p ≡ 0) → searched F n m k table ≡ emptyExpansion k
 unfolding searched
-searched-of-zero n m k table zeros = go (searchable n m k table) refl
+searched-of-zero F n m k table zeros = go (searchable n m k table) refl
   where
-    go : (b : Bool) → searchable n m k table ≡ b → cond b (answerExpansion n k (at table)) (emptyExpansion k) ≡ emptyExpansion k
-    go true e = let sizes = allowed-sizes n m k table e in answer-of-zero n k (at table) (sizes .inputs) (sizes .within) zeros
+    go : (b : Bool) → searchable n m k table ≡ b → cond b (answerExpansion F n k (at table)) (emptyExpansion k) ≡ emptyExpansion k
+    go true e = let sizes = allowed-sizes n m k table e F in answer-of-zero F n k (at table) (sizes .inputs) (sizes .within) zeros
     go false e = refl

@@ -6,6 +6,7 @@ use Prim.Native.Nat.{ℕ, _-_, _*_, _/_, _%_, _^_, _<_}
 use lib.Bits.{bitAnd}
 use Rattle.numbers.specs.Bytes.{at, tabulate}
 use Rattle.expansions.specs.Answers.{answerMixed, answerFixed, answerCoefficient}
+use Rattle.expansions.specs.Rules.{ruleOf}
 use Rattle.expansions.specs.Split.{gather, outside}
 use Rattle.search.specs.Expansion.{answerExpansion}
 use Rattle.lanes.specs.inner.Lanes.{blockLanes}
@@ -27,46 +28,47 @@ leaderFixed n leader = bitAnd (leader .pair) (1 * 2 ^ n % 2 ^ 64 - 1)
 
 -- `lanes` holds the block functions of the leader's M and i, and `blocks` the polarities found from them
 module _ (s : Sizes) (table : List ℕ) (leader : Leader) (lanes blocks : List ℕ) (limits : Limits s) (given : Given (s .n) table)
-    (leads : Leads (s .n) (s .k) (at table) (2 ^ s .n * 2 ^ s .n) leader)
+    (leads : Leads (s .family) (s .n) (s .k) (at table) (2 ^ s .n * 2 ^ s .n) leader)
     (held : lanes ≡ blockLanes (s .n) (s .k) (leaderMixed (s .n) leader) (gather (s .n) (outside (s .n) (leaderMixed (s .n) leader)) (leaderFixed (s .n) leader)) (at table))
-    (found : blocks ≡ tabulate 256 (polarityAt (s .n) (s .k) (at lanes))) where
-  mixed : leaderMixed (s .n) leader ≡ answerMixed (s .n) (s .k) (at table)
-  mixed = leader-mixed (s .n) (s .k) (at table) leader (limits .inputs) (limits .within) leads
+    (found : blocks ≡ tabulate 256 (polarityAt (s .family) (s .n) (s .k) (at lanes))) where
+  mixed : leaderMixed (s .n) leader ≡ answerMixed (s .family) (s .n) (s .k) (at table)
+  mixed = leader-mixed (s .family) (s .n) (s .k) (at table) leader (limits .inputs) (limits .within) leads
 
-  fixed : leaderFixed (s .n) leader ≡ answerFixed (s .n) (s .k) (at table)
-  fixed = leader-fixed (s .n) (s .k) (at table) leader (limits .inputs) (limits .within) leads
+  fixed : leaderFixed (s .n) leader ≡ answerFixed (s .family) (s .n) (s .k) (at table)
+  fixed = leader-fixed (s .family) (s .n) (s .k) (at table) leader (limits .inputs) (limits .within) leads
 
   outputs : (p : ℕ) → p < 2 ^ s .n → at table p < 2 ^ 8
   outputs p l = given .bytes p
 
-  held-answer : lanes ≡ blockLanes (s .n) (s .k) (answerMixed (s .n) (s .k) (at table))
-      (gather (s .n) (outside (s .n) (answerMixed (s .n) (s .k) (at table))) (answerFixed (s .n) (s .k) (at table))) (at table)
+  held-answer : lanes ≡ blockLanes (s .n) (s .k) (answerMixed (s .family) (s .n) (s .k) (at table))
+      (gather (s .n) (outside (s .n) (answerMixed (s .family) (s .n) (s .k) (at table))) (answerFixed (s .family) (s .n) (s .k) (at table))) (at table)
   held-answer = rw (mixed, fixed) at held
 
   pub blocks-lt : (j : ℕ) → at blocks j < 8
   blocks-lt j = rw found (chosen-lt s (at table) lanes limits outputs held-answer j)
 
   module _ (coefficients : List ℕ) (filled : coefficients ≡ tabulate 256 (coefficientAt (s .n) (leaderMixed (s .n) leader) (at lanes) (at blocks))) where
-    filled-answer : coefficients ≡ tabulate 256 (answerCoefficient (s .n) (s .k) (at table))
+    filled-answer : coefficients ≡ tabulate 256 (answerCoefficient (s .family) (s .n) (s .k) (at table))
     filled-answer = filled ∙ rw (mixed, found) (coefficients-answer s (at table) lanes limits outputs held-answer)
 
-    pub record-answer : _≡_ {A = Expansion}
+    pub record-answer : (products literals : ℕ) → (products ≡ ruleOf (s .family) .productsIn (leader .charge)) × (literals ≡ ruleOf (s .family) .literalsIn (leader .charge))
+        → _≡_ {A = Expansion}
         (record {
           coefficients = coefficients;
           blocks = blocks;
           mixed = leaderMixed (s .n) leader;
           fixed = leaderFixed (s .n) leader;
-          products = leader .charge / 4096;
-          literals = leader .charge % 4096;
+          products = products;
+          literals = literals;
         })
-        (answerExpansion (s .n) (s .k) (at table))
+        (answerExpansion (s .family) (s .n) (s .k) (at table))
     unfolding answerExpansion
-    record-answer =
+    record-answer products literals counts =
         rw (
           filled-answer,
           found ∙ polarities-answer s (at table) lanes limits outputs held-answer,
           mixed,
           fixed,
-          leader-products (s .n) (s .k) (at table) leader (limits .inputs) (limits .within) leads,
-          leader-literals (s .n) (s .k) (at table) leader (limits .inputs) (limits .within) leads,
+          counts .0 ∙ leader-products (s .family) (s .n) (s .k) (at table) leader (limits .inputs) (limits .within) leads,
+          counts .1 ∙ leader-literals (s .family) (s .n) (s .k) (at table) leader (limits .inputs) (limits .within) leads,
         )

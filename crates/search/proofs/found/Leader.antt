@@ -6,6 +6,8 @@ use native.Mathlib.Omega.{arith}
 use lib.Bits.{bitAnd}
 use Rattle.numbers.proofs.Shifts.{mask-shifted}
 use Rattle.expansions.specs.Members.{Member}
+use Rattle.expansions.specs.declared.families.Family.{Family}
+use Rattle.expansions.specs.Rules.{ruleOf}
 use Rattle.expansions.specs.Costs.{products, literals}
 use Rattle.expansions.proofs.Costs.{charge, charge-products, charge-literals}
 use Rattle.expansions.specs.Answers.{leastPair, answerPair, answerMixed, answerFixed, answerPolarity, answerCoefficient}
@@ -14,40 +16,40 @@ use Rattle.search.specs.declared.pairs.Leader.{Leader}
 use Rattle.expansions.proofs.Least.{leading-chosen}
 use Rattle.expansions.proofs.Answers.{answer-first, answer-member, answer-charge}
 
-module _ (n k : ℕ) (f : ℕ → ℕ) (leader : Leader) (hn : n ≤ 8) (hk : k ≤ n) (leads : Leads n k f (2 ^ n * 2 ^ n) leader) where
+module _ (F : Family) (n k : ℕ) (f : ℕ → ℕ) (leader : Leader) (hn : n ≤ 8) (hk : k ≤ n) (leads : Leads F n k f (2 ^ n * 2 ^ n) leader) where
   -- there is a valid pair, so the leader stands for one
-  leader-stands : (leader .pair ≡ answerPair n k f) × (leader .charge ≡ pairCost n k f (answerPair n k f))
+  leader-stands : (leader .pair ≡ answerPair F n k f) × (leader .charge ≡ pairCost F n k f (answerPair F n k f))
   unfolding answerPair leastPair
   leader-stands =
-      let a = answer-first n k f hk in
-      leading-chosen 4294967295 (pairValid n k) (pairCost n k f) (2 ^ n * 2 ^ n) (leader .charge) (leader .pair) leads (answerPair n k f) (a .below) (a .fits)
+      let a = answer-first F n k f hk in
+      leading-chosen 4294967295 (pairValid n k) (pairCost F n k f) (2 ^ n * 2 ^ n) (leader .charge) (leader .pair) leads (answerPair F n k f) (a .below) (a .fits)
 
   -- ---- M and i
 
-  pub leader-pair : leader .pair ≡ answerPair n k f
+  pub leader-pair : leader .pair ≡ answerPair F n k f
   leader-pair = leader-stands .0
 
-  pub leader-mixed : leader .pair / 2 ^ n ≡ answerMixed n k f
+  pub leader-mixed : leader .pair / 2 ^ n ≡ answerMixed F n k f
   unfolding answerMixed
   leader-mixed = ap (λ (x : ℕ). x / 2 ^ n) leader-pair
 
   -- as code masks the pair
-  pub leader-fixed : bitAnd (leader .pair) (1 * 2 ^ n % 2 ^ 64 - 1) ≡ answerFixed n k f
+  pub leader-fixed : bitAnd (leader .pair) (1 * 2 ^ n % 2 ^ 64 - 1) ≡ answerFixed F n k f
   unfolding answerFixed
   leader-fixed = mask-shifted n (leader .pair) (omega arith) ∙ ap (λ (x : ℕ). x % 2 ^ n) leader-pair
 
   -- so they are of a member
-  pub leader-member : Member n k (leader .pair / 2 ^ n) (bitAnd (leader .pair) (1 * 2 ^ n % 2 ^ 64 - 1)) (answerPolarity n k f)
-  leader-member = rw (leader-mixed, leader-fixed) (answer-member n k f hk)
+  pub leader-member : Member n k (leader .pair / 2 ^ n) (bitAnd (leader .pair) (1 * 2 ^ n % 2 ^ 64 - 1)) (answerPolarity F n k f)
+  leader-member = rw (leader-mixed, leader-fixed) (answer-member F n k f hk)
 
   -- ---- products and literals
 
-  pub leader-charge : leader .charge ≡ charge n (answerCoefficient n k f)
+  pub leader-charge : leader .charge ≡ charge (ruleOf F) n (answerCoefficient F n k f)
   unfolding answerMixed answerFixed
-  leader-charge = leader-stands .1 ∙ sym (answer-charge n k f hk)
+  leader-charge = leader-stands .1 ∙ sym (answer-charge F n k f hk)
 
-  pub leader-products : leader .charge / 4096 ≡ products n (answerCoefficient n k f)
-  leader-products = ap (λ (x : ℕ). x / 4096) leader-charge ∙ charge-products n (answerCoefficient n k f) hn
+  pub leader-products : ruleOf F .productsIn (leader .charge) ≡ products n (answerCoefficient F n k f)
+  leader-products = ap (ruleOf F .productsIn) leader-charge ∙ charge-products F n (answerCoefficient F n k f) hn
 
-  pub leader-literals : leader .charge % 4096 ≡ literals n (answerCoefficient n k f)
-  leader-literals = ap (λ (x : ℕ). x % 4096) leader-charge ∙ charge-literals n (answerCoefficient n k f) hn
+  pub leader-literals : ruleOf F .literalsIn (leader .charge) ≡ literals n (answerCoefficient F n k f)
+  leader-literals = ap (ruleOf F .literalsIn) leader-charge ∙ charge-literals F n (answerCoefficient F n k f) hn

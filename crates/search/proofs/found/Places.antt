@@ -27,28 +27,28 @@ use Rattle.expansions.proofs.Answers.{only-ext, answer-member, answer-polarity-
 use Rattle.lanes.proofs.expand.Held.{held-plane, held-polarity}
 
 module _ (s : Sizes) (f : ℕ → ℕ) (lanes : List ℕ) (limits : Limits s) (outputs : (p : ℕ) → p < 2 ^ s .n → f p < 2 ^ 8)
-    (held : lanes ≡ blockLanes (s .n) (s .k) (answerMixed (s .n) (s .k) f) (gather (s .n) (outside (s .n) (answerMixed (s .n) (s .k) f)) (answerFixed (s .n) (s .k) f)) f) where
-  member : Member (s .n) (s .k) (answerMixed (s .n) (s .k) f) (answerFixed (s .n) (s .k) f) (answerPolarity (s .n) (s .k) f)
-  member = answer-member (s .n) (s .k) f (limits .within)
+    (held : lanes ≡ blockLanes (s .n) (s .k) (answerMixed (s .family) (s .n) (s .k) f) (gather (s .n) (outside (s .n) (answerMixed (s .family) (s .n) (s .k) f)) (answerFixed (s .family) (s .n) (s .k) f)) f) where
+  member : Member (s .n) (s .k) (answerMixed (s .family) (s .n) (s .k) f) (answerFixed (s .family) (s .n) (s .k) f) (answerPolarity (s .family) (s .n) (s .k) f)
+  member = answer-member (s .family) (s .n) (s .k) f (limits .within)
 
-  set : MixedSet s (answerMixed (s .n) (s .k) f)
+  set : MixedSet s (answerMixed (s .family) (s .n) (s .k) f)
   set = record { mask = member .mask; size = member .size }
 
   -- ---- one place
 
-  polarityAt-answer : (j : ℕ) → polarityAt (s .n) (s .k) (at lanes) j ≡ answerPolarity (s .n) (s .k) f j
+  polarityAt-answer : (j : ℕ) → polarityAt (s .family) (s .n) (s .k) (at lanes) j ≡ answerPolarity (s .family) (s .n) (s .k) f j
   unfolding polarityAt answerPolarity
   polarityAt-answer j =
       only-ext j (2 ^ (s .n - s .k)) _ _
-      (held-polarity s (answerMixed (s .n) (s .k) f) (answerFixed (s .n) (s .k) f) f lanes limits outputs set held j)
+      (held-polarity s (answerMixed (s .family) (s .n) (s .k) f) (answerFixed (s .family) (s .n) (s .k) f) f lanes limits outputs set held j)
 
   coefficientAt-answer : (t : ℕ)
-      → coefficientAt (s .n) (answerMixed (s .n) (s .k) f) (at lanes) (answerPolarity (s .n) (s .k) f) t ≡ answerCoefficient (s .n) (s .k) f t
+      → coefficientAt (s .n) (answerMixed (s .family) (s .n) (s .k) f) (at lanes) (answerPolarity (s .family) (s .n) (s .k) f) t ≡ answerCoefficient (s .family) (s .n) (s .k) f t
   unfolding coefficientAt coefficientIn answerCoefficient memberCoefficient
   coefficientAt-answer t =
-      let M : ℕ = answerMixed (s .n) (s .k) f in
-      let i : ℕ = answerFixed (s .n) (s .k) f in
-      let φ : ℕ → ℕ = answerPolarity (s .n) (s .k) f in
+      let M : ℕ = answerMixed (s .family) (s .n) (s .k) f in
+      let i : ℕ = answerFixed (s .family) (s .n) (s .k) f in
+      let φ : ℕ → ℕ = answerPolarity (s .family) (s .n) (s .k) f in
       let j : ℕ = block (s .n) M t in
       let j-lt : j < 2 ^ (s .n - s .k) = block-lt (s .n) (s .k) M i φ member t in
       ap (only (ltb t (2 ^ s .n)))
@@ -58,20 +58,20 @@ module _ (s : Sizes) (f : ℕ → ℕ) (lanes : List ℕ) (limits : Limits s) (o
 
   -- ---- all places
 
-  pub polarities-answer : tabulate 256 (polarityAt (s .n) (s .k) (at lanes)) ≡ tabulate 256 (answerPolarity (s .n) (s .k) f)
+  pub polarities-answer : tabulate 256 (polarityAt (s .family) (s .n) (s .k) (at lanes)) ≡ tabulate 256 (answerPolarity (s .family) (s .n) (s .k) f)
   polarities-answer = tabulate-ext 256 _ _ (λ j l. polarityAt-answer j)
 
   -- the polarities, read from the array that holds them
-  chosen-answer : at (tabulate 256 (polarityAt (s .n) (s .k) (at lanes))) ≡ answerPolarity (s .n) (s .k) f
+  chosen-answer : at (tabulate 256 (polarityAt (s .family) (s .n) (s .k) (at lanes))) ≡ answerPolarity (s .family) (s .n) (s .k) f
   chosen-answer =
       ap at polarities-answer
-      ∙ at-whole 256 (answerPolarity (s .n) (s .k) f)
-      (λ j l. answer-polarity-zero (s .n) (s .k) f j (omega (arith, pow-mono {i = s .n - s .k} {j = 8} (omega (arith, limits .inputs)))))
+      ∙ at-whole 256 (answerPolarity (s .family) (s .n) (s .k) f)
+      (λ j l. answer-polarity-zero (s .family) (s .n) (s .k) f j (omega (arith, pow-mono {i = s .n - s .k} {j = 8} (omega (arith, limits .inputs)))))
 
-  pub chosen-lt : (j : ℕ) → at (tabulate 256 (polarityAt (s .n) (s .k) (at lanes))) j < 8
-  chosen-lt j = omega (arith, ap (λ (φ : ℕ → ℕ). φ j) chosen-answer, answer-polarity-lt (s .n) (s .k) f (limits .within) j, pow-mono (limits .mixed))
+  pub chosen-lt : (j : ℕ) → at (tabulate 256 (polarityAt (s .family) (s .n) (s .k) (at lanes))) j < 8
+  chosen-lt j = omega (arith, ap (λ (φ : ℕ → ℕ). φ j) chosen-answer, answer-polarity-lt (s .family) (s .n) (s .k) f (limits .within) j, pow-mono (limits .mixed))
 
   pub coefficients-answer :
-      tabulate 256 (coefficientAt (s .n) (answerMixed (s .n) (s .k) f) (at lanes) (at (tabulate 256 (polarityAt (s .n) (s .k) (at lanes)))))
-      ≡ tabulate 256 (answerCoefficient (s .n) (s .k) f)
+      tabulate 256 (coefficientAt (s .n) (answerMixed (s .family) (s .n) (s .k) f) (at lanes) (at (tabulate 256 (polarityAt (s .family) (s .n) (s .k) (at lanes)))))
+      ≡ tabulate 256 (answerCoefficient (s .family) (s .n) (s .k) f)
   coefficients-answer = rw chosen-answer (tabulate-ext 256 _ _ (λ t l. coefficientAt-answer t))

@@ -8,7 +8,6 @@ use lib.Pow.{pow-mono}
 use Rattle.numbers.specs.Sums.{foldBelow, sumBelow}
 use Rattle.numbers.proofs.Shifts.{one-shifted, points-le}
 use Rattle.expansions.specs.Answers.{leastPolarity, pairCharge}
-use Rattle.expansions.specs.Costs.{weight}
 use Rattle.expansions.proofs.Costs.{sum-le}
 use Rattle.expansions.proofs.Minimal.{polarity-first}
 use Rattle.lanes.specs.inner.Sizes.{Limits}
@@ -18,20 +17,20 @@ use Rattle.lanes.specs.declared.charges.Cheapest.{Cheapest}
 use Rattle.lanes.proofs.charges.Used.{chargeFrom-le}
 
 -- what block j costs under its first least polarity
-abbrev leastFrom : ℕ → (ℕ → ℕ) → ℕ → ℕ
-leastFrom k lanes j = chargeFrom lanes j (leastPolarity k (chargeFrom lanes j))
+abbrev leastFrom : Sizes → (ℕ → ℕ) → ℕ → ℕ
+leastFrom s lanes j = chargeFrom (s .family) lanes j (leastPolarity (s .k) (chargeFrom (s .family) lanes j))
 
-leastFrom-le : (k : ℕ) (lanes : ℕ → ℕ) (j : ℕ) → k ≤ 3 → j < 256 → leastFrom k lanes j ≤ 8 * weight 11
-leastFrom-le k lanes j hk hj =
-    let eight : 2 ^ k ≤ 2 ^ 3 = pow-mono hk in
-    chargeFrom-le lanes j _ hj (omega (arith, polarity-first k (chargeFrom lanes j) .below))
+leastFrom-le : (s : Sizes) (lanes : ℕ → ℕ) (j : ℕ) → s .k ≤ 3 → j < 256 → leastFrom s lanes j ≤ 77824
+leastFrom-le s lanes j hk hj =
+    let eight : 2 ^ s .k ≤ 2 ^ 3 = pow-mono hk in
+    chargeFrom-le (s .family) lanes j _ hj (omega (arith, polarity-first (s .k) (chargeFrom (s .family) lanes j) .below))
 
 -- the blocks below j have been passed
 pub record BlocksSummed (s : Sizes) (lanes : ℕ → ℕ) (count sum j : ℕ) : Type 0 where
   pub sizes : Limits s
   pub all : count ≡ 2 ^ (s .n - s .k)
   pub within : j ≤ count
-  pub total : sum ≡ sumBelow j (leastFrom (s .k) lanes)
+  pub total : sum ≡ sumBelow j (leastFrom s lanes)
 
 pub blocks-none : (s : Sizes) (lanes : ℕ → ℕ) → Limits s → BlocksSummed s lanes (1 * 2 ^ (s .n - s .k) % 2 ^ 64) 0 0
 unfolding foldBelow
@@ -42,12 +41,11 @@ module _ (s : Sizes) (lanes : ℕ → ℕ) (count sum j : ℕ) (turn : j < count
   pub blocks-few : j < 256
   blocks-few = omega (arith, summed .all, points-le (s .n - s .k) (omega (arith, summed .sizes .inputs)))
 
-  module _ (least : Cheapest) (cheapest : IsCheapest (s .k) (chargeFrom lanes j) least) where
+  module _ (least : Cheapest) (cheapest : IsCheapest (s .k) (chargeFrom (s .family) lanes j) least) where
     pub blocks-lt : sum + least .charge < 2 ^ 31
-    unfolding weight
     blocks-lt =
-        let one = leastFrom-le (s .k) lanes j (summed .sizes .mixed) blocks-few in
-        let rest = sum-le j (8 * weight 11) (leastFrom (s .k) lanes) (λ i l. leastFrom-le (s .k) lanes i (summed .sizes .mixed) (omega (arith, blocks-few))) in
+        let one = leastFrom-le s lanes j (summed .sizes .mixed) blocks-few in
+        let rest = sum-le j (77824) (leastFrom s lanes) (λ i l. leastFrom-le s lanes i (summed .sizes .mixed) (omega (arith, blocks-few))) in
         omega (arith, one, rest, blocks-few, summed .total, cheapest .charge)
 
     pub blocks-more : BlocksSummed s lanes count (sum + least .charge) (j + 1)
@@ -61,8 +59,8 @@ module _ (s : Sizes) (lanes : ℕ → ℕ) (count sum j : ℕ) (turn : j < count
         }
 
 pub blocks-all : (s : Sizes) (lanes : ℕ → ℕ) (count sum j : ℕ) → count ≤ j → BlocksSummed s lanes count sum j
-    → sum ≡ pairCharge (s .n) (s .k) (chargeFrom lanes)
+    → sum ≡ pairCharge (s .n) (s .k) (chargeFrom (s .family) lanes)
 unfolding pairCharge
 blocks-all s lanes count sum j h b =
     let e : j ≡ 2 ^ (s .n - s .k) = omega (arith, b .all, b .within) in
-    b .total ∙ ap (λ (x : ℕ). sumBelow x (leastFrom (s .k) lanes)) e
+    b .total ∙ ap (λ (x : ℕ). sumBelow x (leastFrom s lanes)) e

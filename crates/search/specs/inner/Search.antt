@@ -11,6 +11,8 @@ use Rattle.numbers.specs.Tests.{only}
 use Rattle.expansions.specs.inner.Leading.{Leading}
 use Rattle.expansions.specs.Least.{firstLeast}
 use Rattle.expansions.specs.Split.{spread, outside}
+use Rattle.expansions.specs.declared.families.Family.{Family}
+use Rattle.expansions.specs.Rules.{ruleOf}
 use Rattle.expansions.specs.Answers.{blockCharge, leastPolarity, pairCharge, validPair}
 use Rattle.lanes.specs.inner.Charges.{chargeFrom}
 use Rattle.search.specs.declared.pairs.Leader.{Leader}
@@ -21,15 +23,15 @@ pub record Given (n : ℕ) (table : List ℕ) : Type 0 where
   pub bytes : (p : ℕ) → at table p < 2 ^ 8
 
 -- the first least polarity of block j, from the block functions, and 0 where there is no block j
-unfoldable pub polarityAt : ℕ → ℕ → (ℕ → ℕ) → ℕ → ℕ
-polarityAt n k lanes j = only (ltb j (2 ^ (n - k))) (leastPolarity k (chargeFrom lanes j))
+unfoldable pub polarityAt : Family → ℕ → ℕ → (ℕ → ℕ) → ℕ → ℕ
+polarityAt F n k lanes j = only (ltb j (2 ^ (n - k))) (leastPolarity k (chargeFrom F lanes j))
 
--- a pair of M and i as one number x, M * 2 ^ n + i: whether it is one, and what it costs
+-- a pair of M and i as one number x, M * 2 ^ n + i: whether it is one, and what it costs by a family's rule
 abbrev pub pairValid : ℕ → ℕ → ℕ → Bool
 pairValid n k x = validPair n k (x / 2 ^ n) (x % 2 ^ n)
 
-abbrev pub pairCost : ℕ → ℕ → (ℕ → ℕ) → ℕ → ℕ
-pairCost n k f x = pairCharge n k (blockCharge n k f (x / 2 ^ n) (x % 2 ^ n))
+abbrev pub pairCost : Family → ℕ → ℕ → (ℕ → ℕ) → ℕ → ℕ
+pairCost F n k f x = pairCharge n k (blockCharge (ruleOf F) n k f (x / 2 ^ n) (x % 2 ^ n))
 
 -- the pair of M and the polarity w of the inputs outside M, closed up, as one number
 abbrev pub pairOf : (n M w : ℕ) → ℕ
@@ -40,5 +42,5 @@ unfoldable pub ledBy : (c pair : ℕ) → Leader → Leader
 ledBy c pair l = cond (ltb c (l .charge)) (record { charge = c; pair = pair }) l
 
 -- the leader of the pairs below N; before there is one its charge is above every charge
-abbrev pub Leads : ℕ → ℕ → (ℕ → ℕ) → ℕ → Leader → Type 0
-Leads n k f N l = Leading 4294967295 (pairCost n k f) (firstLeast N (pairValid n k) (pairCost n k f)) (l .charge) (l .pair)
+abbrev pub Leads : Family → ℕ → ℕ → (ℕ → ℕ) → ℕ → Leader → Type 0
+Leads F n k f N l = Leading 4294967295 (pairCost F n k f) (firstLeast N (pairValid n k) (pairCost F n k f)) (l .charge) (l .pair)

@@ -21,7 +21,7 @@ start c = c .before .before .before .before .before .before .before .before
 set : (c : tie.Start) → MixedSet (c .args .sizes) (c .args .leader .pair / 2 ^ c .args .sizes .n)
 set c =
     let l = c .pre .1 .0 in
-    let member = leader-member _ _ _ (c .args .leader) (l .inputs) (l .within) (c .pre .1 .1 .1) in
+    let member = leader-member (c .args .sizes .family) _ _ _ (c .args .leader) (l .inputs) (l .within) (c .pre .1 .1 .1) in
     record { mask = member .mask; size = member .size }
 
 abbrev lanes : tie.After-expand-blocks → List ℕ
@@ -100,20 +100,18 @@ coefficients-requires c κs =
 empty-requires : tie.Need-empty-requires
 empty-requires c κs = search needs
 
-cast-found : tie.Need-cast-found
-cast-found c = search needs
-
-cast-found-2 : tie.Need-cast-found-2
-cast-found-2 c = search needs
+counts-in-requires : tie.Need-counts-in-requires
+counts-in-requires c κs = search needs
 
 returns : tie.Need-returns
 returns c =
-    let e = c .before .before .before .before .before .before .before .before .before in
+    let d = c .before .before in
+    let e = d .before .before .before .before .before .before in
     let s = start e in
     let p = s .pre .1 in
     let kept = room-kept 8 _ (omega arith) (p .0) (lanes e) _ (long e) in
-    let polarities = c .before .before .before .before .before .before .polarities .ensures in
-    record-answer _ _ _ _ _ (p .0) (p .1 .0) (p .1 .1) (kept ∙ e .expand-blocks .ensures) polarities _ (c .before .before .before .coefficients .ensures)
+    let polarities = d .before .before .before .polarities .ensures in
+    record-answer _ _ _ _ _ (p .0) (p .1 .0) (p .1 .1) (kept ∙ e .expand-blocks .ensures) polarities _ (d .coefficients .ensures) _ _ (c .before .counts-in .ensures)
 
 pub expansion-of-spec : {M : Type 1} → statement M
 expansion-of-spec =
@@ -133,7 +131,6 @@ expansion-of-spec =
     array-share-prefix-lanes-2
     slice-aggregate-coefficients
     coefficients-requires
+    counts-in-requires
     empty-requires
-    cast-found
-    cast-found-2
     returns)

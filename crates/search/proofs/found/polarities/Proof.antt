@@ -9,7 +9,7 @@ use Rattle.search.proofs.found.polarities.Statement.{statement}
 use Rattle.search.proofs.found.polarities.Tie as tie
 
 abbrev Inv-loop : tie.InvT-loop
-Inv-loop rows sizes lanes all₀ j₀ all j = Filled (polarityAt (sizes .n) (sizes .k) (at lanes)) j all₀ all
+Inv-loop rows sizes lanes all₀ j₀ all j = Filled (polarityAt (sizes .family) (sizes .n) (sizes .k) (at lanes)) j all₀ all
 
 abbrev μ-loop : tie.MeasureT-loop
 μ-loop rows sizes lanes all₀ j₀ all j = 256 - j

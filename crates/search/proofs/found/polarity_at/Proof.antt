@@ -32,12 +32,10 @@ returns c =
 cheapest-block-requires : tie.Need-cheapest-block-requires
 cheapest-block-requires c κs =
     let p = c .before .before .before .pre in
-    let z = c .before .before .before .args .sizes in (
-      p .0,
-      p .1 .0 .mixed,
-      omega (arith, below c, p .1 .0 .inputs, pow-mono {i = z .n - z .k} {j = 8} (omega (arith, p .1 .0 .inputs))),
-      omega (arith, below c, p .1 .1),
-    )
+    let z = c .before .before .before .args .sizes in
+    let few : c .before .before .before .args .j < 256 =
+    omega (arith, below c, pow-mono {i = z .n - z .k} {j = 8} (omega (arith, p .1 .0 .inputs))) in
+    ((p .0, few, omega (arith, below c, p .1 .1)), p .1 .0)
 
 returns-2 : tie.Need-returns-2
 unfolding polarityAt

@@ -27,7 +27,7 @@ cheapest-block-requires c κs =
     let p = c .before .before .before .before .pre in
     let l = c .before .loop in
     let few = blocks-few _ _ _ _ _ (c .loop-test .taken) (l .inv) in
-    (p .0, p .1 .0 .mixed, few, omega (arith, p .1 .1, l .inv .all))
+    ((p .0, few, omega (arith, p .1 .1, l .inv .all)), p .1 .0)
 
 add-sum : tie.Need-add-sum Inv-loop μ-loop
 add-sum c =

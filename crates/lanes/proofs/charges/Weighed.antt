@@ -1,0 +1,35 @@
+-- What a small sum stands for, as code computes it from the two weights of a family's rule: it is the charge (`weighed-is`), and no part of it is
+-- above 200,000 (`outside-le`, `products-le`, `weighed-le`).
+use mathlib.Core.Path.{_≡_, ap₂, _∙_}
+use Prim.Native.Nat.{ℕ, _+_, _*_, _/_, _≤_, _<_}
+use native.Mathlib.Nat.{mul-le-mul}
+use native.Mathlib.Omega.{arith}
+use lib.Bits.{bitAnd, and-mask, mask-lt}
+use Rattle.expansions.specs.declared.families.Family.{Family}
+use Rattle.expansions.specs.Rules.{weight, ruleOf}
+use Rattle.expansions.specs.inner.Charges.{sumCharge}
+use Rattle.expansions.proofs.Rules.{rule-small}
+
+module _ (F : Family) (more sum product literal : ℕ) (ep : product ≡ ruleOf F .product) (el : literal ≡ ruleOf F .literal) where
+  abbrev weighed : ℕ
+  weighed = sum / 16 * (product + more * literal) + bitAnd sum 15 * literal
+
+  pub weighed-is : weighed ≡ sumCharge (ruleOf F) more sum
+  unfolding sumCharge weight
+  weighed-is = rw (ep, el, and-mask sum 4)
+
+  module _ (hm : more ≤ 8) (hs : sum < 256) where
+    pub outside-le : more * literal ≤ 4096
+    outside-le = let small : literal ≤ 512 = omega (arith, el, rule-small F) in omega (arith, mul-le-mul hm small)
+
+    pub product-le : product + more * literal ≤ 8192
+    product-le = omega (arith, ep, rule-small F, outside-le)
+
+    pub products-le : sum / 16 * (product + more * literal) ≤ 15 * 8192
+    products-le = let few : sum / 16 ≤ 15 = omega arith in mul-le-mul few product-le
+
+    pub weighed-le : weighed ≤ 200000
+    weighed-le =
+        let few : bitAnd sum 15 ≤ 15 = omega (arith, mask-lt sum 4) in
+        let small : literal ≤ 512 = omega (arith, el, rule-small F) in
+        omega (arith, products-le, mul-le-mul few small)
