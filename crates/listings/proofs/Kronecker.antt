@@ -17,7 +17,9 @@ use Rattle.numbers.specs.Sums.{foldBelow}
 use Rattle.numbers.specs.Tests.{only}
 use Rattle.numbers.proofs.Sums.{fold-ext}
 use Rattle.expansions.specs.declared.kinds.Kind.the-variants as kind
-use Rattle.expansions.specs.Costs.{counted, products, NoDearer}
+use Rattle.expansions.specs.declared.families.Family.the-variants.{One}
+use Rattle.expansions.specs.Costs.{counted, products}
+use Rattle.expansions.specs.Rules.{NoDearer}
 use Rattle.expansions.specs.kronecker.Letters.{Literal, absent, plain, complemented, literalTrue, literalCount, termLiteral, termTrue, kroneckerValue}
 use Rattle.expansions.specs.kronecker.Costs.{termLiterals, kroneckerLiterals}
 use Rattle.expansions.specs.kronecker.Answers.{KroneckerMinimal}
@@ -202,11 +204,11 @@ module _ (n m : ℕ) (f letters c : ℕ → ℕ) (p l : ℕ) (hn : n ≤ 8) (min
   fewer = omega (arith, minimal .products-counted, products-le n c, pow-mono {i = n} {j = 8} hn)
 
   -- demand 3
-  pub kronecker-listed : IsListing n kind.Kronecker f (kroneckerListing n m letters c p l)
+  pub kronecker-listed : IsListing n One kind.Kronecker f (kroneckerListing n m letters c p l)
   kronecker-listed =
       record {
         gives = λ q h. kronecker-listing-value n m letters c p l small q ∙ minimal .answer .gives q h;
         products-stated = kronecker-stated-products n m letters c p l fewer ∙ sym counts-products;
         literals-stated = kronecker-stated-literals n m letters c p l few ∙ sym counts-literals;
-        cheapest = rw (counts-products, counts-literals) (kronecker-rivals n f (NoDearer p l) (minimal .cheapest));
+        cheapest = rw (counts-products, counts-literals) (kronecker-rivals n f (NoDearer One p l) (minimal .cheapest));
       }

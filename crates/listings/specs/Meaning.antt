@@ -9,7 +9,8 @@ use lib.ListN.{length, getD}
 use Rattle.numbers.specs.Bits.{bit}
 use Rattle.numbers.specs.Tests.{only}
 use Rattle.expansions.specs.declared.kinds.Kind.{Kind}
-use Rattle.expansions.specs.Costs.{NoDearer}
+use Rattle.expansions.specs.declared.families.Family.{Family}
+use Rattle.expansions.specs.Rules.{NoDearer}
 use Rattle.expansions.specs.Rivals.{Rival}
 use Rattle.listings.specs.Parts.{parts, bytes, same, field}
 
@@ -104,11 +105,12 @@ statedLiterals s = getD (firstNumbers s) (length (firstNumbers s) - 1) 0
 
 -- ---- demand 3
 
--- Demand 3 of the bytes of a listing for the table f, at each kind of k: "The listing's own lines give every output at every point; its first-line counts are
--- those of its lines; and every other expansion of the class at that k that gives the same outputs has at least as many products, and where
--- as many, at least as many literals."
-pub record IsListing (n : ℕ) (kind : Kind) (f : ℕ → ℕ) (bytes : List ℕ) : Type 0 where
+-- Demand 3 of the bytes of a listing for the table f, at each family and each kind of k: "The listing's own lines give every output at every point; its
+-- first-line counts are those of its lines; and every other expansion of the class at that k that gives the same outputs has at least as many
+-- products, and where as many, at least as many literals." Document 02, W-203: of `table2`, "demand 3 weighs its rivals in the same way", by
+-- 4 × products + literals, "and among equal charges by fewest products"
+pub record IsListing (n : ℕ) (family : Family) (kind : Kind) (f : ℕ → ℕ) (bytes : List ℕ) : Type 0 where
   pub gives : (p : ℕ) → p < 2 ^ n → listingValue bytes p ≡ f p
   pub products-stated : statedProducts bytes ≡ listingProducts bytes
   pub literals-stated : statedLiterals bytes ≡ listingLiterals bytes
-  pub cheapest : (p l : ℕ) → Rival n f kind p l → NoDearer (listingProducts bytes) (listingLiterals bytes) p l
+  pub cheapest : (p l : ℕ) → Rival n f kind p l → NoDearer family (listingProducts bytes) (listingLiterals bytes) p l

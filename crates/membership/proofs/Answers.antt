@@ -6,7 +6,7 @@ use native.Mathlib.Nat.{le-antisymm}
 use lib.Bits.{bitAnd, and-le-l}
 use Rattle.numbers.proofs.Ands.{and-again}
 use Rattle.expansions.specs.Members.{polarity, Gives}
-use Rattle.expansions.specs.Costs.{products, literals}
+use Rattle.expansions.specs.declared.families.Family.{Family}
 use Rattle.expansions.specs.Answers.{IsAnswer}
 use Rattle.expansions.proofs.Counted.{counted-some}
 use Rattle.expansions.proofs.Least.{then-rest}
@@ -15,7 +15,7 @@ use Rattle.membership.proofs.Cubes.{value-shown}
 use Rattle.membership.proofs.Shown.{shown-back}
 use Rattle.membership.proofs.Class.{class-member, class-value, member-class}
 
-module _ (n k : ℕ) (f : ℕ → ℕ) (M i : ℕ) (φ c : ℕ → ℕ) (answer : IsAnswer n k f M i φ c) where
+module _ (F : Family) (n k : ℕ) (f : ℕ → ℕ) (M i : ℕ) (φ c : ℕ → ℕ) (answer : IsAnswer F n k f M i φ c) where
   shown : ℕ → ℕ
   shown = shownPolarity n M (shownIn n M i φ c)
 
@@ -33,8 +33,7 @@ module _ (n k : ℕ) (f : ℕ → ℕ) (M i : ℕ) (φ c : ℕ → ℕ) (answer 
   unfolding shown
   shown-le =
       let member = class-member n k M i (shownIn n M i φ c) c (member-class n k M i φ c (answer .member)) in
-      then-rest i i refl (then-rest M M refl
-      (then-rest (literals n c) (literals n c) refl (then-rest (products n c) (products n c) refl (answer .first M i shown c member shown-gives))))
+      then-rest i i refl (then-rest M M refl (then-rest _ _ refl (then-rest _ _ refl (answer .first M i shown c member shown-gives))))
 
   pub answer-shown : (j : ℕ) → j < 2 ^ (n - k) → bitAnd (φ j) (shownInputs n M c j) ≡ φ j
   unfolding shown
