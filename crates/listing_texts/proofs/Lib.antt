@@ -1,3 +1,4 @@
+pub mod Families
 pub mod FormRead
 pub mod Exactness
 pub mod BesideKronecker
