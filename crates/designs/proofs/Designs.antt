@@ -31,15 +31,15 @@ use Rattle.search.specs.Expansion.{answerExpansion}
 use Rattle.kronecker.specs.Expansion.{answerKronecker}
 use Rattle.listings.specs.Parts.{parts, fields, bytes, same}
 use Rattle.numbers.specs.Nonzero.{ifNonzero, overNonzero}
-use Rattle.listings.specs.Listing.{tabbed, line, descending, digitCount, decimal, cubeByte, cube, outputBytes, formLine, cubeLine, listingWith, listing}
+use Rattle.listings.specs.Listing.{tabbed, line, descending, digitCount, decimal, cubeByte, cube, outputBytes, formWord, formLine, cubeLine, listingWith, listing}
 use Rattle.listings.proofs.Words.{same-equal}
 use Rattle.listings.specs.Meaning.{allows, cubeTrue, literalsIn, outputsSaid, finished, linesOf, ofTerm, overLines, overTerms}
 use Rattle.listings.specs.Meaning.{listingValue, listingProducts, listingLiterals, numberSaid, firstNumbers}
-use Rattle.lines.specs.Fields.{digit, oneDigit, digitsFrom, wellFormed, number, bits, outputs, headed}
+use Rattle.lines.specs.Fields.{digit, oneDigit, digitsFrom, wellFormed, number, bits, outputs, headed, familyOf}
 use Rattle.lines.specs.Rows.{onRow, rowLine, unfinished, ended, laterLines}
 use Rattle.listings.specs.Kronecker.{letterByte, letterBytes, literalByte, kroneckerCube, kroneckerLine, kroneckerListing}
 use Rattle.table_texts.specs.Design.{designRefusal}
-use Rattle.table_texts.specs.First.{kindOf, firstLine}
+use Rattle.table_texts.specs.First.{kindOf, tableWord, firstLine}
 use Rattle.table_texts.specs.Read.{withDesign, judgedFirst, allLines, reading}
 use Rattle.text.specs.Compile.{answerListing}
 use Rattle.text.specs.Print.{refusedLine, printedFor, printed}
@@ -81,9 +81,9 @@ unfolding same agrees allAgree markedDesigns computed termsBelow orTable zeroTab
     literalOf literalTrue literalCount lettersOf stepValue without kroneckerStep kroneckerCoefficient termLiterals kroneckerLiterals kroneckerCharge
     kindCharge answerKind kronecker.answerCoefficient answerKronecker
     letterByte letterBytes literalByte kroneckerCube kroneckerLine kroneckerListing designRefusal
-    parts fields bytes tabbed line descending digitCount decimal cubeByte cube outputBytes formLine cubeLine ifNonzero overNonzero listingWith listing
+    parts fields bytes tabbed line descending digitCount decimal cubeByte cube outputBytes formWord formLine cubeLine ifNonzero overNonzero listingWith listing
     allows cubeTrue literalsIn outputsSaid finished linesOf ofTerm overLines overTerms listingValue listingProducts listingLiterals
-    numberSaid firstNumbers digit oneDigit kindOf digitsFrom wellFormed number bits outputs headed firstLine onRow rowLine
+    numberSaid firstNumbers digit oneDigit kindOf digitsFrom wellFormed number bits outputs headed familyOf tableWord firstLine onRow rowLine
     unfinished ended laterLines withDesign judgedFirst allLines reading answerListing refusedLine printedFor printed
 all-agree = tt
 

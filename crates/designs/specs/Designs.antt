@@ -1,5 +1,5 @@
 -- Document 01, "Marked designs", its printed example, the limits that it names and some worked texts and listings, with designs for document 02's
--- `K`, as one table: "The marked designs form one proved table over the definitions with a shared statement". A row is a question about the
+-- `K` and texts for its `table2`, as one table: "The marked designs form one proved table over the definitions with a shared statement". A row is a question about the
 -- definitions and the numbers that answer it; bytes are numbers too. The one statement is that they are equal, at every row (proofs/Designs,
 -- `designs-hold`).
 use mathlib.Core.List.{List, [], _∷_, _++_}
@@ -12,6 +12,8 @@ use Rattle.algebra.specs.Coefficients.{coefficient}
 use Rattle.expansions.specs.Costs.{products, literals}
 use Rattle.expansions.specs.BlockTable.{entry}
 use Rattle.expansions.specs.Answers.{answerMixed, answerFixed, answerCoefficient}
+use Rattle.expansions.specs.declared.families.Family.{Family}
+use Rattle.expansions.specs.declared.families.Family.the-variants.{One, Two}
 use Rattle.expansions.specs.declared.kinds.Kind.{Kind}
 use Rattle.expansions.specs.declared.kinds.Kind.the-variants.{Block, Kronecker}
 use Rattle.expansions.specs.kronecker.Costs.{kroneckerLiterals}
@@ -43,8 +45,8 @@ pub data Asked : Type 0 where
   meaningOf : String → Asked
   -- what the program prints for a text: the listing of the answer, or the line `refused`
   printedOf : String → Asked
-  -- the listing of a record of n inputs, m outputs and k mixed inputs
-  listingOf : (n m k : ℕ) → Expansion → Asked
+  -- the listing of a record of n inputs, m outputs and k mixed inputs, for a part of the family
+  listingOf : Family → (n m k : ℕ) → Expansion → Asked
   -- the numbers on the first line of a listing
   firstLineOf : String → Asked
   -- the products and the literals of a listing, counted on its `term` lines
@@ -74,9 +76,14 @@ abbrev pub kindStated : Kind → List ℕ
 kindStated (Block k) = k ∷ []
 kindStated Kronecker = bytes "K"
 
--- an accepted text: n, m, the kind of k and the 256 bytes of its table
-abbrev pub accepted : (n m : ℕ) → Kind → List ℕ → List ℕ
-accepted n m kind table = n ∷ m ∷ kindStated kind ++ table
+-- the family, in numbers
+abbrev pub familyStated : Family → ℕ
+familyStated One = 1
+familyStated Two = 2
+
+-- an accepted text: the family, n, m, the kind of k and the 256 bytes of its table
+abbrev pub accepted : Family → (n m : ℕ) → Kind → List ℕ → List ℕ
+accepted family n m kind table = familyStated family ∷ n ∷ m ∷ kindStated kind ++ table
 
 -- a refused text: "A refusal returns its number and the line"
 abbrev pub refusal : (number line : ℕ) → List ℕ
@@ -84,7 +91,7 @@ refusal number line = number ∷ line ∷ []
 
 -- what a text means, in numbers: two under a refusal, and more where it is accepted
 abbrev pub meaning : Reading → List ℕ
-meaning (given design table) = accepted (design .n) (design .m) (design .kind) table
+meaning (given design table) = accepted (design .family) (design .n) (design .m) (design .kind) table
 meaning (refused number line) = refusal number line
 
 -- the numbers that the definitions give
@@ -96,7 +103,7 @@ computed (costOf n k table) = costs n k table
 computed (kindFor n table) = kindCosts n table
 computed (meaningOf text) = meaning (reading (bytes text))
 computed (printedOf text) = printed (bytes text)
-computed (listingOf n m k e) = listing n m k e
+computed (listingOf family n m k e) = listing family n m k e
 computed (firstLineOf text) = firstNumbers (bytes text)
 computed (countsOf text) = listingProducts (bytes text) ∷ listingLiterals (bytes text) ∷ []
 computed (tableOf n text) = tabulate (2 ^ n) (listingValue (bytes text))
@@ -142,6 +149,14 @@ printedText = "table\t2\t2\t1\non\t0\t01\non\t1\t10\non\t2\t10\non\t3\t10\nend\n
 -- the listing beside it: "it prints"
 abbrev pub printedListing : String
 printedListing = "form\t2\t2\t1\t1\t2\t2\t2\nterm\t--\t10\nterm\t00\t11\nend\n"
+
+-- the same text for a part of family two
+abbrev pub printedText2 : String
+printedText2 = "table2\t2\t2\t1\non\t0\t01\non\t1\t10\non\t2\t10\non\t3\t10\nend\n"
+
+-- its listing, of the same expansion: 2 products and 2 literals are the least charge too, 10
+abbrev pub printedListing2 : String
+printedListing2 = "form2\t2\t2\t1\t1\t2\t2\t2\nterm\t--\t10\nterm\t00\t11\nend\n"
 
 -- the listing of the all-zero table at k = 2
 abbrev pub zeroListing : String
@@ -235,17 +250,17 @@ markedDesigns =
     -- "the line `refused`, number, line"
     ∷ states (printedOf "table\t2\t1\t1\non\t1\t1\non\t1\t1\nend\n") (bytes "refused\t5\t3\n")
     -- the reading call "fills a lent table of 256 bytes, zero from 2^n on, and returns n, m, k"
-    ∷ states (meaningOf printedText) (accepted 2 2 (Block 1) (printedTable ++ replicate 252 0))
+    ∷ states (meaningOf printedText) (accepted One 2 2 (Block 1) (printedTable ++ replicate 252 0))
     -- "Empty text is refusal 6, line 1."
     ∷ states (meaningOf "") (refusal 6 1)
     -- "n = 8 with point 255 is accepted, 256 is refusal 5."
-    ∷ states (meaningOf "table\t8\t1\t0\non\t255\t1\nend\n") (accepted 8 1 (Block 0) (set zeros 255 1))
+    ∷ states (meaningOf "table\t8\t1\t0\non\t255\t1\nend\n") (accepted One 8 1 (Block 0) (set zeros 255 1))
     ∷ states (meaningOf "table\t8\t1\t0\non\t256\t1\nend\n") (refusal 5 2)
     -- "n = 2, k = 2 is accepted, n = 2, k = 3 is refusal 4."
-    ∷ states (meaningOf "table\t2\t1\t2\nend\n") (accepted 2 1 (Block 2) zeros)
+    ∷ states (meaningOf "table\t2\t1\t2\nend\n") (accepted One 2 1 (Block 2) zeros)
     ∷ states (meaningOf "table\t2\t1\t3\nend\n") (refusal 4 1)
     -- "k may be `-`, which means 1"
-    ∷ states (meaningOf "table\t2\t1\t-\nend\n") (accepted 2 1 (Block 1) zeros)
+    ∷ states (meaningOf "table\t2\t1\t-\nend\n") (accepted One 2 1 (Block 1) zeros)
     -- "In line 1 the order is 1, 2, 3, 4."
     ∷ states (meaningOf "table\t9\t9\tx\nend\n") (refusal 1 1)
     ∷ states (meaningOf "table\t9\t9\t9\nend\n") (refusal 2 1)
@@ -278,42 +293,60 @@ markedDesigns =
     ∷ states (kindFor 3 oneOfThreeTable) (bytes "SNN" ++ 3 ∷ 7 ∷ [])
     ∷ states (costOf 3 2 oneOfThreeTable) (3 ∷ 6 ∷ [])
     -- a text with `K`, from its text to its listing, byte for byte, and what the listing says
-    ∷ states (meaningOf splitText) (accepted 2 2 Kronecker (splitTable ++ replicate 252 0))
+    ∷ states (meaningOf splitText) (accepted One 2 2 Kronecker (splitTable ++ replicate 252 0))
     ∷ states (printedOf splitText) (bytes splitListing)
     ∷ states (countsOf splitListing) (2 ∷ 3 ∷ [])
     ∷ states (tableOf 2 splitListing) splitTable
     -- with `K` the order of line 1 is the same, and 4 cannot apply
     ∷ states (meaningOf "table\t9\t9\tK\nend\n") (refusal 2 1)
     ∷ states (meaningOf "table\t1\t9\tK\nend\n") (refusal 3 1)
-    ∷ states (meaningOf "table\t1\t1\tK\nend\n") (accepted 1 1 Kronecker zeros)
+    ∷ states (meaningOf "table\t1\t1\tK\nend\n") (accepted One 1 1 Kronecker zeros)
     ∷ states (meaningOf "table\t1\t1\tk\nend\n") (refusal 1 1)
+    -- "A table that begins `table2`", "Its listing begins `form2`", "The reading call returns the family too"
+    ∷ states (meaningOf printedText2) (accepted Two 2 2 (Block 1) (printedTable ++ replicate 252 0))
+    ∷ states (printedOf printedText2) (bytes printedListing2)
+    ∷ states (listingOf Two 2 2 1 (recorded (1 ∷ 0 ∷ 0 ∷ 3 ∷ []) (0 ∷ 1 ∷ []) 1 2 2 2)) (bytes printedListing2)
+    ∷ states (firstLineOf printedListing2) (2 ∷ 2 ∷ 1 ∷ 1 ∷ 2 ∷ 2 ∷ 2 ∷ [])
+    ∷ states (tableOf 2 printedListing2) printedTable
+    -- with `table2` a `-` means 1, and the order of line 1 is the same
+    ∷ states (meaningOf "table2\t2\t1\t-\nend\n") (accepted Two 2 1 (Block 1) zeros)
+    ∷ states (meaningOf "table2\t9\t1\t1\nend\n") (refusal 2 1)
+    ∷ states (meaningOf "table2\t8\t9\t9\nend\n") (refusal 3 1)
+    ∷ states (meaningOf "table2\t2\t1\t3\nend\n") (refusal 4 1)
+    -- "`K` is for `table` only; with `table2` it is refusal 1", also where n or m is none
+    ∷ states (meaningOf "table2\t2\t1\tK\nend\n") (refusal 1 1)
+    ∷ states (meaningOf "table2\t9\t9\tK\nend\n") (refusal 1 1)
+    -- words that are neither `table` nor `table2`
+    ∷ states (meaningOf "table3\t2\t1\t1\nend\n") (refusal 1 1)
+    ∷ states (meaningOf "table02\t2\t1\t1\nend\n") (refusal 1 1)
+    ∷ states (meaningOf "Table2\t2\t1\t1\nend\n") (refusal 1 1)
     -- the printed example's record, its listing, and what the listing says
-    ∷ states (listingOf 2 2 1 (recorded (1 ∷ 0 ∷ 0 ∷ 3 ∷ []) (0 ∷ 1 ∷ []) 1 2 2 2)) (bytes printedListing)
+    ∷ states (listingOf One 2 2 1 (recorded (1 ∷ 0 ∷ 0 ∷ 3 ∷ []) (0 ∷ 1 ∷ []) 1 2 2 2)) (bytes printedListing)
     ∷ states (firstLineOf printedListing) (2 ∷ 2 ∷ 1 ∷ 1 ∷ 2 ∷ 2 ∷ 2 ∷ [])
     ∷ states (countsOf printedListing) (2 ∷ 2 ∷ [])
     ∷ states (tableOf 2 printedListing) printedTable
     -- all zero at k = 2
-    ∷ states (listingOf 2 1 2 (recorded [] [] 3 0 0 0)) (bytes zeroListing)
+    ∷ states (listingOf One 2 1 2 (recorded [] [] 3 0 0 0)) (bytes zeroListing)
     ∷ states (firstLineOf zeroListing) (2 ∷ 1 ∷ 2 ∷ 3 ∷ 0 ∷ 0 ∷ 0 ∷ [])
     ∷ states (countsOf zeroListing) (0 ∷ 0 ∷ [])
     ∷ states (tableOf 2 zeroListing) zeroTable
     -- all one at k = 0
-    ∷ states (listingOf 2 1 0 (recorded (1 ∷ []) [] 0 0 1 0)) (bytes oneListing)
+    ∷ states (listingOf One 2 1 0 (recorded (1 ∷ []) [] 0 0 1 0)) (bytes oneListing)
     ∷ states (firstLineOf oneListing) (2 ∷ 1 ∷ 0 ∷ 0 ∷ 0 ∷ 1 ∷ 0 ∷ [])
     ∷ states (countsOf oneListing) (1 ∷ 0 ∷ [])
     ∷ states (tableOf 2 oneListing) oneTable
     -- n = 1, only point 0 on
-    ∷ states (listingOf 1 1 0 (recorded (0 ∷ 1 ∷ []) [] 0 1 1 1)) (bytes pointListing)
+    ∷ states (listingOf One 1 1 0 (recorded (0 ∷ 1 ∷ []) [] 0 1 1 1)) (bytes pointListing)
     ∷ states (firstLineOf pointListing) (1 ∷ 1 ∷ 0 ∷ 0 ∷ 1 ∷ 1 ∷ 1 ∷ [])
     ∷ states (countsOf pointListing) (1 ∷ 1 ∷ [])
     ∷ states (tableOf 1 pointListing) pointTable
     -- OR of two inputs at w = 0
-    ∷ states (listingOf 2 1 0 (recorded (0 ∷ 1 ∷ 1 ∷ 1 ∷ []) [] 0 0 3 4)) (bytes orListing)
+    ∷ states (listingOf One 2 1 0 (recorded (0 ∷ 1 ∷ 1 ∷ 1 ∷ []) [] 0 0 3 4)) (bytes orListing)
     ∷ states (firstLineOf orListing) (2 ∷ 1 ∷ 0 ∷ 0 ∷ 0 ∷ 3 ∷ 4 ∷ [])
     ∷ states (countsOf orListing) (3 ∷ 4 ∷ [])
     ∷ states (tableOf 2 orListing) orTable
     -- one product of four inputs, with a number of two digits
-    ∷ states (listingOf 4 1 0 (recorded (set (replicate 16 0) 15 1) [] 0 10 1 4)) (bytes fourListing)
+    ∷ states (listingOf One 4 1 0 (recorded (set (replicate 16 0) 15 1) [] 0 10 1 4)) (bytes fourListing)
     ∷ states (firstLineOf fourListing) (4 ∷ 1 ∷ 0 ∷ 0 ∷ 10 ∷ 1 ∷ 4 ∷ [])
     ∷ states (countsOf fourListing) (1 ∷ 4 ∷ [])
     ∷ states (tableOf 4 fourListing) (set (replicate 16 0) 5 1)

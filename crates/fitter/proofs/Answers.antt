@@ -278,7 +278,7 @@ check-words text s r e =
           let sized = block-sized (blockDesign z) (z .k) refl (reading-accepted text (blockDesign z) table g .sized) in
           answers-words z table s sized r (e ∙ ap (λ (x : tables.Reading). checked x s) g);
       kronecker = λ d table g k.
-          kronecker-words s r (e ∙ ap (λ (x : tables.Reading). checked x s) g ∙ ap (λ (x : Kind). judgedKind (d .n) (d .m) x table s) k);
+          kronecker-words s r (e ∙ ap (λ (x : tables.Reading). checked x s) g ∙ ap (λ (x : Kind). judgedKind (d .family) (d .n) (d .m) x table s) k);
     }
 
 -- "a `kron` listing is 11, line 1", beside every accepted table text
@@ -286,6 +286,6 @@ pub kron-listing-refused : (text s : List ℕ) (d : Design) (table : List ℕ) �
     → checked (tables.reading text) s ≡ Refused 11 1
 unfolding checked judgedDesign judged
 kron-listing-refused text s d table e k = ap (λ (x : tables.Reading). checked x s) e ∙ go (d .kind) where
-  go : (x : Kind) → judgedKind (d .n) (d .m) x table s ≡ Refused 11 1
-  go (Block j) = ap (judged (record { n = d .n; m = d .m; k = j }) table) (kron-read (record { n = d .n; m = d .m; k = j }) s k)
+  go : (x : Kind) → judgedKind (d .family) (d .n) (d .m) x table s ≡ Refused 11 1
+  go (Block j) = let z : Sizes = record { n = d .n; m = d .m; k = j; family = d .family } in ap (judged z table) (kron-read z s k)
   go Kronecker = ap (λ (x : ℕ). Refused x 1) (kron-beside s k)

@@ -33,7 +33,7 @@ module _ (z : Sizes) (s : List ℕ) (M i : ℕ) (w c : ℕ → ℕ) (sized : Siz
 
   numbers-stated : firstNumbers s ≡ z .n ∷ z .m ∷ z .k ∷ M ∷ i ∷ products (z .n) c ∷ literals (z .n) c ∷ []
   unfolding termListing
-  numbers-stated = ap firstNumbers e ∙ listing-numbers _ (z .n) (z .m) w c numbers-small
+  numbers-stated = ap firstNumbers e ∙ listing-numbers (z .family) _ (z .n) (z .m) w c numbers-small
 
   pub mixed-stated : statedMixed s ≡ M
   mixed-stated = ap (λ (xs : List ℕ). getD xs 3 0) numbers-stated
@@ -43,12 +43,12 @@ module _ (z : Sizes) (s : List ℕ) (M i : ℕ) (w c : ℕ → ℕ) (sized : Siz
 
 pub cubes-listed : (z : Sizes) (s : List ℕ) (M i : ℕ) (w c : ℕ → ℕ) → s ≡ termListing z M i w c → listingCubes s ≡ printedCubes (z .n) w c
 unfolding termListing
-cubes-listed z s M i w c e = ap listingCubes e ∙ listing-cubes _ (z .n) (z .m) w c
+cubes-listed z s M i w c e = ap listingCubes e ∙ listing-cubes (z .family) _ (z .n) (z .m) w c
 
 pub value-listed : (z : Sizes) (s : List ℕ) (M i : ℕ) (w c : ℕ → ℕ) → s ≡ termListing z M i w c → ((t : ℕ) → t < 2 ^ z .n → c t < 2 ^ z .m)
     → (p : ℕ) → listingValue s p ≡ value (z .n) w c p
 unfolding termListing
-value-listed z s M i w c e small p = ap (λ (b : List ℕ). listingValue b p) e ∙ listing-value _ (z .n) (z .m) w c small p
+value-listed z s M i w c e small p = ap (λ (b : List ℕ). listingValue b p) e ∙ listing-value (z .family) _ (z .n) (z .m) w c small p
 
 -- ---- the rows that were read
 

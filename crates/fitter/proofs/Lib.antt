@@ -3,4 +3,5 @@ pub mod Bytes
 pub mod Answers
 pub mod Judging
 pub mod Printed
+pub mod Unlike
 pub mod OwnListing

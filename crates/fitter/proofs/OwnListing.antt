@@ -30,7 +30,7 @@ use Rattle.fitter.proofs.Answers.{answers-words}
 module _ (z : Sizes) (table : List ℕ) (e : Expansion) (sized : Sized (z .n) (z .m) (z .k)) (r : MemberRecord z e)
     (gives : Gives (z .n) (e .mixed) (e .fixed) (at (e .blocks)) (at (e .coefficients)) (at table)) where
   abbrev s : List ℕ
-  s = listing (z .n) (z .m) (z .k) e
+  s = listing (z .family) (z .n) (z .m) (z .k) e
 
   abbrev w : ℕ → ℕ
   w = polarity (z .n) (e .mixed) (e .fixed) (at (e .blocks))

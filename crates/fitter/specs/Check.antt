@@ -1,6 +1,7 @@
 -- The fitter's check: the answer for every pair of byte strings; and when each answer is given, in document 02's words, over the listing's
 -- bytes. Document 02, W-201: "Read a listing beside its table text and say: not of the class; differs, with the lowest point that differs; or
--- same." W-202: "In the fitter's check a `kron` listing is 11, line 1, and a `K` table beside a `form` listing is 12."
+-- same." W-202: "In the fitter's check a `kron` listing is 11, line 1, and a `K` table beside a `form` listing is 12." W-203: "The fitter's check takes
+-- both families; a listing of the other family than its table is 12, line 1."
 use mathlib.Core.Bool.{cond}
 use mathlib.Core.List.{List}
 use mathlib.Core.Logic.{_⊎_, _↔_}
@@ -8,6 +9,7 @@ use mathlib.Core.Path.{_≡_}
 use Prim.Native.Nat.{ℕ, _^_, _<_}
 use Rattle.numbers.specs.Bytes.{at}
 use Rattle.algebra.specs.Terms.{value}
+use Rattle.expansions.specs.declared.families.Family.{Family}
 use Rattle.expansions.specs.declared.kinds.Kind.{Kind}
 use Rattle.expansions.specs.declared.kinds.Kind.the-variants.{Block, Kronecker}
 use Rattle.expansions.specs.Least.{Best, nothing, best}
@@ -42,14 +44,18 @@ judged z table (shown f rows) =
     NotOfClass
 judged z table (refused number line) = Refused number line
 
--- a listing beside a table of n inputs and m outputs, by the kind of k: "a `K` table beside a `form` listing is 12"
-abbrev pub judgedKind : ℕ → ℕ → Kind → List ℕ → List ℕ → Checked
-judgedKind n m (Block k) table s = judged (record { n = n; m = m; k = k }) table (listingReading (record { n = n; m = m; k = k }) s)
-judgedKind n m Kronecker table s = Refused (besideKronecker s) 1
+-- a listing beside a table with the sizes z
+abbrev pub judgedBlock : Sizes → List ℕ → List ℕ → Checked
+judgedBlock z table s = judged z table (listingReading z s)
+
+-- a listing beside a table of n inputs and m outputs for a part of the family, by the kind of k: "a `K` table beside a `form` listing is 12"
+abbrev pub judgedKind : Family → ℕ → ℕ → Kind → List ℕ → List ℕ → Checked
+judgedKind family n m (Block k) table s = judgedBlock (record { n = n; m = m; k = k; family = family }) table s
+judgedKind family n m Kronecker table s = Refused (besideKronecker s) 1
 
 -- a listing beside the table of an accepted text
 unfoldable pub judgedDesign : Design → List ℕ → List ℕ → Checked
-judgedDesign d table s = judgedKind (d .n) (d .m) (d .kind) table s
+judgedDesign d table s = judgedKind (d .family) (d .n) (d .m) (d .kind) table s
 
 -- "The table text is judged first."
 unfoldable pub checked : tables.Reading → List ℕ → Checked
@@ -86,10 +92,10 @@ pub record Answers (z : Sizes) (table s : List ℕ) (r : Checked) : Type 0 where
   pub same : (r ≡ Same) ↔ ((φ : ℕ → ℕ) × (c : ℕ → ℕ) × PrintsTable z table s φ c)
   -- a member prints the cubes, and p is the lowest point that differs
   pub differs : (p : ℕ) → (r ≡ Differs p) ↔ (Passes z s × ((φ : ℕ → ℕ) × (c : ℕ → ℕ) × PrintsCubes z s φ c) × LowestDifference (z .n) table s p)
-  -- a listing is refused exactly when it is not the listing of some terms, with the table's n, m and k and with its own counts
+  -- a listing is refused exactly when it is not the listing of some terms, with the table's n, m, k and family and with its own counts
   pub refusal : ((number line : ℕ) → r ≡ Refused number line → ⊥) ↔ Passes z s
 
--- the answer beside an accepted `K` table: "a `K` table beside a `form` listing is 12", and any other listing 11, each with line 1
+-- the answer beside an accepted `K` table: "a `K` table beside a `form` listing is 12", a `form2` listing too, and any other listing 11, each with line 1
 pub record KroneckerAnswers (s : List ℕ) (r : Checked) : Type 0 where
   pub form : (r ≡ Refused 12 1) ↔ FormListing s
   pub other : (r ≡ Refused 11 1) ↔ (FormListing s → ⊥)

@@ -76,12 +76,14 @@ fn check_design(design: Design, table: &[u8; Expansion::PLACES], listing: &[u8])
     ensures { λ r. ⌜ r ≡ judgedDesign design (now (table .entry)) (now (listing .entry)) ⌝ }
 {
     let kind = design.kind;
+    let family = design.family;
     match kind {
         Kind::Block(k) => {
             let sizes = Sizes {
                 n: design.n,
                 m: design.m,
                 k,
+                family,
             };
             check_table(sizes, table, listing)
         }

@@ -1,9 +1,13 @@
--- What the fields of a line say: words, digits, numbers and outputs. Document 01, "Text in, listing out".
+-- What the fields of a line say: words, digits, numbers and outputs. Document 01, "Text in, listing out", and document 02, W-203.
 use mathlib.Core.Bool.{Bool, cond, _&&_, _||_, not}
 use mathlib.Core.List.{List, [], _∷_}
 use Prim.Native.Nat.{ℕ, _+_, _-_, _*_}
 use lib.Dec.{leb, ltb, eqb}
 use lib.ListN.{length, getD}
+use Rattle.expansions.specs.declared.families.Family.{Family}
+use Rattle.expansions.specs.declared.families.Family.the-variants.{One, Two}
+use Rattle.lines.specs.declared.fields.FamilyRead.{FamilyRead}
+use Rattle.lines.specs.declared.fields.FamilyRead.the-variants as family
 use Rattle.lines.specs.declared.values.Number.{Number}
 use Rattle.lines.specs.declared.values.Number.the-variants.{Is, Wrong}
 use Rattle.listings.specs.Parts.{same, field, fields}
@@ -16,6 +20,16 @@ andThen Wrong other f = other
 -- a line has so many fields, the first of them the given word: "Fields are parted by one tab (byte 9)."
 unfoldable pub headed : ℕ → List ℕ → List ℕ → Bool
 headed count word l = eqb (length (fields l)) count && same (field 0 l) word
+
+-- "A table that begins `table2`", "Its listing begins `form2`": the family that a first line with so many fields is for, by its first word; `one` and
+-- `two` are the words of the two families
+unfoldable pub familyOf : ℕ → List ℕ → List ℕ → List ℕ → FamilyRead
+familyOf count one two l = cond (headed count one l) (family.Is One) (cond (headed count two l) (family.Is Two) family.Wrong)
+
+-- what follows a family that is read, and what else is said where none is
+abbrev pub familyThen : {A : Type 0} → FamilyRead → A → (Family → A) → A
+familyThen (family.Is x) other f = f x
+familyThen family.Wrong other f = other
 
 -- a digit's value, below a base: the digits are the bytes from `0` (byte 48) on
 unfoldable pub digit : ℕ → ℕ → Number

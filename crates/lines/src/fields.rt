@@ -1,9 +1,16 @@
-// The fields of a line, which are parted by one tab, and whether they are words. A field is a part of its line; a line comes without its byte 10.
+// The fields of a line, which are parted by one tab, whether they are words, and the family that the first word says. A field is a part of its line; a line comes without its byte 10.
 use crate::cursor::Cursor;
+use expansions::families::Family;
 ghost use mathlib.Core.Path.{_≡_};
 ghost use lib.ListN.{length};
 ghost use Rattle.listings.specs.Parts.{same, fields, field};
-ghost use Rattle.lines.specs.Fields.{headed};
+ghost use Rattle.lines.specs.Fields.{headed, familyOf};
+
+// What the first word of a line says of the family.
+pub enum FamilyRead {
+    Is(Family),
+    Wrong,
+}
 
 // Whether a field is the given word.
 pub fn same(field: &[u8], word: &[u8]) -> bool
@@ -66,4 +73,17 @@ pub fn headed(count: usize, word: &[u8], line: &[u8]) -> bool
         return false;
     }
     same(field(line, 0), word)
+}
+
+// The family of a line with so many fields, by its first word: `one` is the word of family one and `two` that of family two.
+pub fn family_of(count: usize, one: &[u8], two: &[u8], line: &[u8]) -> FamilyRead
+    ensures { λ r. ⌜ r ≡ familyOf count (now (one .entry)) (now (two .entry)) (now (line .entry)) ⌝ }
+{
+    if headed(count, one, line) {
+        return FamilyRead::Is(Family::One);
+    }
+    if headed(count, two, line) {
+        return FamilyRead::Is(Family::Two);
+    }
+    FamilyRead::Wrong
 }

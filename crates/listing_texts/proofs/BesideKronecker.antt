@@ -1,23 +1,24 @@
--- Listings beside a `K` table, in document 02's words: the number is 12 exactly where the listing is a `form` listing (`form-exactly`), and else 11
--- (`other-exactly`). The first 8,192 bytes of a listing have the same number (`beside-first`). A `kron` listing is 11, line 1, beside
+-- Listings beside a `K` table, in document 02's words: the number is 12 exactly where the listing is a `form` or `form2` listing (`form-exactly`), and
+-- else 11 (`other-exactly`). The first 8,192 bytes of a listing have the same number (`beside-first`). A `kron` listing is 11, line 1, beside
 -- every table (`kron-beside`, `kron-read`).
-use mathlib.Core.Bool.{Bool, true, false, cond, false≢true}
+use mathlib.Core.Bool.{false, and-false}
 use mathlib.Core.List.{List, [], _∷_, _++_, map, append-assoc}
 use mathlib.Core.Logic.{_⊎_, inl, inr, _↔_}
 use mathlib.Core.Path.{_≡_, refl, sym, ap, _∙_}
 use Prim.Native.Nat.{ℕ, _+_, _-_, _≤_}
 use native.Mathlib.Omega.{arith}
 use lib.Dec.{eqb}
-use lib.ListN.{length, take, drop, length-append, take-append-drop}
+use lib.ListN.{length, take, drop, take-append-drop}
 use lib.Seq.{take-append-add}
-use Rattle.numbers.proofs.Tests.{both-right}
+use Rattle.expansions.specs.declared.families.Family.{Family}
+use Rattle.expansions.specs.declared.families.Family.the-variants.{One, Two}
 use Rattle.listings.specs.Parts.{parts, bytes, same, fields, field}
-use Rattle.listings.specs.Listing.{tabbed, line, decimal}
+use Rattle.listings.specs.Listing.{tabbed, line, decimal, formWord, formLine}
 use Rattle.listings.proofs.Joined.{parts-lines}
-use Rattle.listings.proofs.Lengths.{digitsOf-le, length-numbers}
+use Rattle.listings.proofs.Lengths.{digitsOf-le, length-formWord, length-formLine}
 use Rattle.listings.proofs.Meaning.{plain-form, plain-numbers}
 use Rattle.listings.proofs.Parts.{separated, parts-joined}
-use Rattle.lines.specs.Fields.{headed}
+use Rattle.lines.specs.Fields.{headed, familyOf}
 use Rattle.table_texts.specs.declared.sizes.Sizes.{Sizes}
 use Rattle.listing_texts.specs.declared.form.Form.{Form}
 use Rattle.listing_texts.specs.declared.form.FirstLine.{FirstLine}
@@ -26,15 +27,16 @@ use Rattle.listing_texts.specs.Form.{firstLine, formNumbers, FormListing
 use Rattle.listing_texts.specs.Read.{refused, allLines, listingReading, besideLine, besideLines, besideKronecker}
 use Rattle.listing_texts.proofs.FormRead.{form-said, form-read}
 
--- ---- a `form` listing
+-- ---- a `form` or `form2` listing
 
 form-beside : (s : List ℕ) → FormListing s → besideKronecker s ≡ 12
 unfolding besideKronecker besideLines
 form-beside s g =
     let numbers : List ℕ = formNumbers (g .form) in
+    let family : Family = g .form .sizes .family in
     ap besideKronecker (g .characters)
     ∙ rw (
-      parts-lines (bytes "form") (map decimal numbers) (g .rest) plain-form (plain-numbers numbers),
+      parts-lines (formWord family) (map decimal numbers) (g .rest) (plain-form family) (plain-numbers numbers),
       form-said (g .form) (g .digits),
     )
 
@@ -46,7 +48,7 @@ lines-form s l (l′ ∷ ls) e h = go (firstLine l) refl h where
   go (States f) says h =
       let read = form-read l f says in
       let rest : List ℕ = l′ ++ separated 10 ls in
-      let word : List ℕ = bytes "form" ++ tabbed (map decimal (formNumbers f)) in
+      let word : List ℕ = formWord (f .sizes .family) ++ tabbed (map decimal (formNumbers f)) in
       record {
         form = f;
         digits = read .1;
@@ -81,15 +83,13 @@ other-exactly s = (λ e g. omega (arith, form-beside s g), λ none. go none (bes
 
 -- ---- the first 8,192 bytes
 
-first-le : (f : Form) → length (line (bytes "form") (map decimal (formNumbers f))) ≤ 40
-unfolding line bytes
-first-le f =
-    let xs : List ℕ = formNumbers f in
-    omega (arith, length-append (tabbed (map decimal xs)) (10 ∷ []), length-numbers xs, digitsOf-le xs)
+first-le : (f : Form) → length (line (formWord (f .sizes .family)) (map decimal (formNumbers f))) ≤ 41
+unfolding formLine
+first-le f = omega (arith, length-formLine (f .sizes .family) (formNumbers f), length-formWord (f .sizes .family), digitsOf-le (formNumbers f))
 
 form-first : (s : List ℕ) → FormListing s → FormListing (take 8192 s)
 form-first s g =
-    let first : List ℕ = line (bytes "form") (map decimal (formNumbers (g .form))) in
+    let first : List ℕ = line (formWord (g .form .sizes .family)) (map decimal (formNumbers (g .form))) in
     let long : 8192 ≡ length first + (8192 - length first) = omega (arith, first-le (g .form)) in
     record {
       form = g .form;
@@ -103,7 +103,7 @@ form-first s g =
 
 form-whole : (s : List ℕ) → FormListing (take 8192 s) → FormListing s
 form-whole s g =
-    let first : List ℕ = line (bytes "form") (map decimal (formNumbers (g .form))) in
+    let first : List ℕ = line (formWord (g .form .sizes .family)) (map decimal (formNumbers (g .form))) in
     record {
       form = g .form;
       digits = g .digits;
@@ -122,13 +122,15 @@ beside-first s = go (beside-either s) where
 
 -- ---- a `kron` listing
 
--- no line of the word `kron` is a `form` line
+-- no line of the word `kron` is a `form` or `form2` line
+kron-headed : (l : List ℕ) (family : Family) → field 0 l ≡ bytes "kron" → headed 8 (formWord family) l ≡ false
+unfolding headed formWord same bytes
+kron-headed l One e = rw e (and-false (eqb (length (fields l)) 8))
+kron-headed l Two e = rw e (and-false (eqb (length (fields l)) 8))
+
 kron-wrong : (l : List ℕ) → field 0 l ≡ bytes "kron" → firstLine l ≡ Wrong
-unfolding firstLine headed same bytes
-kron-wrong l e = go (headed 8 (bytes "form") l) refl _ where
-  go : (t : Bool) → headed 8 (bytes "form") l ≡ t → (x : FirstLine) → cond t x Wrong ≡ Wrong
-  go true h x = absurd (false≢true (ap (λ (f : List ℕ). same f (bytes "form")) (sym e) ∙ both-right (eqb (length (fields l)) 8) _ h))
-  go false h x = refl
+unfolding firstLine familyOf
+kron-wrong l e = rw (kron-headed l One e, kron-headed l Two e)
 
 kron-lines : (l : List ℕ) (ls : List (List ℕ)) → field 0 l ≡ bytes "kron" → besideLines l ls ≡ 11
 unfolding besideLines

@@ -18,10 +18,11 @@ use Rattle.numbers.proofs.Shifts.{points-le}
 use Rattle.numbers.proofs.Bytes.{at-tabulate}
 use Rattle.numbers.proofs.Tests.{both-left, both-right}
 use Rattle.numbers.proofs.refusals.Judging.{sizes-none, sizes-accepted}
+use Rattle.expansions.specs.declared.families.Family.{Family}
 use Rattle.expansions.specs.Costs.{counted, products, literals}
 use Rattle.expansions.proofs.Costs.{products-le, products-ext, literals-ext, literals-lt}
 use Rattle.listings.specs.Parts.{parts, bytes}
-use Rattle.listings.specs.Listing.{tabbed, line, decimal, formLine, termLines, listingWith}
+use Rattle.listings.specs.Listing.{tabbed, line, decimal, formWord, formLine, termLines, listingWith}
 use Rattle.listings.proofs.Joined.{parts-lines}
 use Rattle.listings.proofs.Meaning.{plain-form, plain-numbers}
 use Rattle.listings.proofs.Parts.{separated, parts-joined, others-none, others-more}
@@ -36,6 +37,7 @@ use Rattle.listing_texts.specs.Form.{firstLine, formNumbers, Digits}
 use Rattle.listing_texts.specs.Rows.{coefficientIn, complementedIn}
 use Rattle.listing_texts.specs.Read.{ListingReading, shown, refused, alike, countsRight, linesJudged, firstJudged, grammar, allLines, listingReading}
 use Rattle.listing_texts.specs.Listings.{termListing, Passes}
+use Rattle.listing_texts.proofs.Families.{family-equal, family-self}
 use Rattle.listing_texts.proofs.FormRead.{form-said, form-read}
 
 -- ---- a listing by its first line and what follows it
@@ -83,9 +85,11 @@ alike-sizes z y e =
     let two = both-right (eqb (y .n) (z .n)) _ one in
     let n : y .n ≡ z .n = eqb-true (y .n) (z .n) (both-left (eqb (y .n) (z .n)) _ one) in
     let m : y .m ≡ z .m = eqb-true (y .m) (z .m) (both-left (eqb (y .m) (z .m)) _ two) in
-    let k : y .k ≡ z .k = eqb-true (y .k) (z .k) (both-right (eqb (y .m) (z .m)) _ two) in
-    let legal : sizesRefusal (z .n) (z .m) (z .k) ≡ 0 = eqb-true _ 0 (both-left _ (eqb (y .n) (z .n) && (eqb (y .m) (z .m) && eqb (y .k) (z .k))) e) in
-    let whole : _≡_ {A = Sizes} (record { n = y .n; m = y .m; k = y .k }) (record { n = z .n; m = z .m; k = z .k }) = rw (n, m, k) in
+    let three = both-right (eqb (y .m) (z .m)) _ two in
+    let k : y .k ≡ z .k = eqb-true (y .k) (z .k) (both-left (eqb (y .k) (z .k)) _ three) in
+    let family : y .family ≡ z .family = family-equal (y .family) (z .family) (both-right (eqb (y .k) (z .k)) _ three) in
+    let legal : sizesRefusal (z .n) (z .m) (z .k) ≡ 0 = eqb-true _ 0 (both-left (eqb (sizesRefusal (z .n) (z .m) (z .k)) 0) _ e) in
+    let whole : _≡_ {A = Sizes} (record { n = y .n; m = y .m; k = y .k; family = y .family }) (record { n = z .n; m = z .m; k = z .k; family = z .family }) = rw (n, m, k, family) in
     (sizes-none (z .n) (z .m) (z .k) legal, whole)
 
 counts-right : (n : ℕ) (f : Form) (t : List ℕ) → countsRight n f t ≡ true
@@ -107,16 +111,17 @@ lines-passed n g f (lines.rows v) t e = go (countsRight n g v) refl e where
 lines-passed n g f (lines.refused number at) t e = absurd (no-refusal e)
 
 written-back : (z : Sizes) (f : Form) (t : List ℕ) → f .sizes ≡ z → f .products ≡ products (z .n) (coefficientIn t) → f .literals ≡ literals (z .n) (coefficientIn t)
-    → (bytes "form" ++ tabbed (map decimal (formNumbers f))) ++ 10 ∷ (termLines (z .n) (z .m) (complementedIn t) (coefficientIn t) (2 ^ z .n) ++ line (bytes "end") [])
+    → (formWord (f .sizes .family) ++ tabbed (map decimal (formNumbers f))) ++ 10 ∷ (termLines (z .n) (z .m) (complementedIn t) (coefficientIn t) (2 ^ z .n) ++ line (bytes "end") [])
     ≡ termListing z (f .mixed) (f .fixed) (complementedIn t) (coefficientIn t)
 unfolding termListing listingWith formLine line
 written-back z f t ez ep el =
     let numbers : List ℕ = z .n ∷ z .m ∷ z .k ∷ f .mixed ∷ f .fixed ∷ products (z .n) (coefficientIn t) ∷ literals (z .n) (coefficientIn t) ∷ [] in
     let same : formNumbers f ≡ numbers = cc in
-    let first : List ℕ = bytes "form" ++ tabbed (map decimal numbers) in
+    let family : f .sizes .family ≡ z .family = ap (λ (y : Sizes). y .family) ez in
+    let first : List ℕ = formWord (z .family) ++ tabbed (map decimal numbers) in
     let terms : List ℕ = termLines (z .n) (z .m) (complementedIn t) (coefficientIn t) (2 ^ z .n) in
     let last : List ℕ = line (bytes "end") [] in
-    ap (λ (xs : List ℕ). (bytes "form" ++ tabbed (map decimal xs)) ++ 10 ∷ (terms ++ last)) same
+    ap₂ (λ (y : Family) (xs : List ℕ). (formWord y ++ tabbed (map decimal xs)) ++ 10 ∷ (terms ++ last)) family same
     ∙ sym (append-assoc (first ++ 10 ∷ []) terms last ∙ append-assoc first (10 ∷ []) (terms ++ last))
 
 module _ (z : Sizes) (s : List ℕ) (f : Form) (t : List ℕ) where
@@ -207,7 +212,7 @@ module _ (z : Sizes) (M i : ℕ) (w c : ℕ → ℕ) (sized : Sized (z .n) (z .m
 
   sizes-alike : alike z z ≡ true
   unfolding alike
-  sizes-alike = rw (sizes-accepted (z .n) (z .m) (z .k) sized, eq-eqb (z .n) (z .n) refl, eq-eqb (z .m) (z .m) refl, eq-eqb (z .k) (z .k) refl)
+  sizes-alike = rw (sizes-accepted (z .n) (z .m) (z .k) sized, eq-eqb (z .n) (z .n) refl, eq-eqb (z .m) (z .m) refl, eq-eqb (z .k) (z .k) refl, family-self (z .family))
 
   counts-written : countsRight (z .n) (writtenForm z M i c) (writtenRows (z .n) w c) ≡ true
   unfolding countsRight
@@ -226,9 +231,9 @@ module _ (z : Sizes) (M i : ℕ) (w c : ℕ → ℕ) (sized : Sized (z .n) (z .m
       let numbers : List ℕ = formNumbers (writtenForm z M i c) in
       let terms : List ℕ = termLines (z .n) (z .m) w c (2 ^ z .n) in
       let last : List ℕ = line (bytes "end") [] in
-      ap (listingReading z) (append-assoc (line (bytes "form") (map decimal numbers)) terms last)
+      ap (listingReading z) (append-assoc (line (formWord (z .family)) (map decimal numbers)) terms last)
       ∙ rw (
-        parts-lines (bytes "form") (map decimal numbers) (terms ++ last) plain-form (plain-numbers numbers),
+        parts-lines (formWord (z .family)) (map decimal numbers) (terms ++ last) (plain-form (z .family)) (plain-numbers numbers),
         form-said (writtenForm z M i c) form-digits,
         sizes-alike,
         term-rows-written (z .n) (z .m) 2 w c (sized .inputs .1) (sized .outputs .1) small,

@@ -1,4 +1,4 @@
--- A listing that passes has at most 5,922 bytes (`passes-length`), so that its first 8,192 bytes are the whole of it (`passes-first`).
+-- A listing that passes has at most 5,923 bytes (`passes-length`), so that its first 8,192 bytes are the whole of it (`passes-first`).
 use mathlib.Core.List.{List, [], _∷_}
 use mathlib.Core.Path.{_≡_}
 use Prim.Native.Nat.{ℕ, _+_, _*_, _≤_}
@@ -12,7 +12,7 @@ use Rattle.expansions.specs.Costs.{products, literals}
 use Rattle.expansions.proofs.Costs.{products-le}
 use Rattle.listings.specs.inner.Lengths.{digitsOf}
 use Rattle.listings.proofs.Characters.{digitCount-in}
-use Rattle.listings.proofs.Lengths.{length-listingWith}
+use Rattle.listings.proofs.Lengths.{length-formWord, length-listingWith}
 use Rattle.listings.proofs.Longest.{digitCount-one, digitCount-three}
 use Rattle.table_texts.specs.declared.sizes.Sizes.{Sizes}
 use Rattle.listing_texts.specs.Listings.{termListing, Passes}
@@ -35,14 +35,14 @@ module _ (z : Sizes) (sized : Sized (z .n) (z .m) (z .k)) (M i : ℕ) (w c : ℕ
         digitCount-in (literals (z .n) c),
       )
 
-  listing-le : length (termListing z M i w c) ≤ 5922
+  listing-le : length (termListing z M i w c) ≤ 5923
   unfolding termListing
   listing-le =
       let width : 5 + z .n + 1 + z .m + 1 ≤ 23 = omega (arith, sized .inputs .1, sized .outputs .1) in
       let terms : products (z .n) c * (5 + z .n + 1 + z .m + 1) ≤ 256 * 23 = mul-le-mul few width in
-      rw (length-listingWith _ (z .n) (z .m) w c) (omega (arith, digits-le))
+      rw (length-listingWith (z .family) _ (z .n) (z .m) w c) (omega (arith, digits-le, length-formWord (z .family)))
 
-pub passes-length : (z : Sizes) (s : List ℕ) → Sized (z .n) (z .m) (z .k) → Passes z s → length s ≤ 5922
+pub passes-length : (z : Sizes) (s : List ℕ) → Sized (z .n) (z .m) (z .k) → Passes z s → length s ≤ 5923
 passes-length z s sized p = rw (p .characters) (listing-le z sized (p .mixed) (p .fixed) (p .polarity) (p .coefficient))
 
 -- each file is judged by its first 8,192 bytes

@@ -55,7 +55,7 @@ module _ (z : Sizes) (e : Expansion) (sized : Sized (z .n) (z .m) (z .k)) (r : M
   bytes-small t h = omega (arith, r .outputs t, points-le (z .m) (sized .outputs .1))
 
   -- the listing of the record is the listing of its terms
-  pub listing-terms : listing (z .n) (z .m) (z .k) e ≡ termListing z (e .mixed) (e .fixed) w c
+  pub listing-terms : listing (z .family) (z .n) (z .m) (z .k) e ≡ termListing z (e .mixed) (e .fixed) w c
   unfolding listing termListing
   listing-terms = rw (r .products-counted, r .literals-counted)
 
@@ -80,7 +80,7 @@ module _ (z : Sizes) (e : Expansion) (sized : Sized (z .n) (z .m) (z .k)) (r : M
     go j true l = lines j ∙ shown-back (z .n) (z .k) (e .mixed) (e .fixed) (at (e .blocks)) c (r .member) j
     go j false l = shown-past (z .n) (z .k) (e .mixed) _ j (r .member .size) (ltb-false j (2 ^ (z .n - z .k)) l)
 
-  pub record-shown : listingReading z (listing (z .n) (z .m) (z .k) e) ≡ shown (writtenForm z (e .mixed) (e .fixed) c) rows
+  pub record-shown : listingReading z (listing (z .family) (z .n) (z .m) (z .k) e) ≡ shown (writtenForm z (e .mixed) (e .fixed) c) rows
   record-shown =
       let few : 2 ^ z .n ≤ 256 = points-le (z .n) (sized .inputs .1) in
       ap (listingReading z) listing-terms
@@ -90,8 +90,8 @@ module _ (z : Sizes) (e : Expansion) (sized : Sized (z .n) (z .m) (z .k)) (r : M
   unfolding shownExpansion asShown
   back = rw (coefficients-back, blocks-back, r .products-counted, r .literals-counted)
 
-  pub record-read : (handedUp z (listingReading z (listing (z .n) (z .m) (z .k) e)) .answer ≡ Given)
-      × (handedUp z (listingReading z (listing (z .n) (z .m) (z .k) e)) .expansion ≡ asShown z e)
+  pub record-read : (handedUp z (listingReading z (listing (z .family) (z .n) (z .m) (z .k) e)) .answer ≡ Given)
+      × (handedUp z (listingReading z (listing (z .family) (z .n) (z .m) (z .k) e)) .expansion ≡ asShown z e)
   unfolding handedUp shownRead
   record-read = (
     ap (λ (x : ListingReading). handedUp z x .answer) record-shown,
@@ -143,8 +143,8 @@ module _ (z : Sizes) (f : ℕ → ℕ) (sized : Sized (z .n) (z .m) (z .k)) (sma
       })
       whole-blocks
 
-  pub answer-read : (handedUp z (listingReading z (listing (z .n) (z .m) (z .k) answer)) .answer ≡ Given)
-      × (handedUp z (listingReading z (listing (z .n) (z .m) (z .k) answer)) .expansion ≡ answer)
+  pub answer-read : (handedUp z (listingReading z (listing (z .family) (z .n) (z .m) (z .k) answer)) .answer ≡ Given)
+      × (handedUp z (listingReading z (listing (z .family) (z .n) (z .m) (z .k) answer)) .expansion ≡ answer)
   answer-read =
       let read = record-read z answer sized answer-record in
       (read .0, read .1 ∙ whole)

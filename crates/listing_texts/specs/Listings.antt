@@ -1,5 +1,5 @@
 -- The listings that pass beside a table. Document 02, W-201, and document 01, "Text in, listing out": "A listing .. is: `form` ..; one line for
--- each product ..; `end`."
+-- each product ..; `end`."; W-203: `form2` beside a `table2` table.
 use mathlib.Core.List.{List, [], _∷_}
 use mathlib.Core.Path.{_≡_}
 use Prim.Native.Nat.{ℕ, _^_, _<_}
@@ -7,10 +7,10 @@ use Rattle.expansions.specs.Costs.{products, literals}
 use Rattle.listings.specs.Listing.{listingWith}
 use Rattle.table_texts.specs.declared.sizes.Sizes.{Sizes}
 
--- the listing of terms of any polarities w t and any coefficients c t, with any M and i, and with its own counts
+-- the listing, of the table's family, of terms of any polarities w t and any coefficients c t, with any M and i, and with its own counts
 unfoldable pub termListing : Sizes → (M i : ℕ) → (w c : ℕ → ℕ) → List ℕ
 termListing z M i w c =
-    listingWith (z .n ∷ z .m ∷ z .k ∷ M ∷ i ∷ products (z .n) c ∷ literals (z .n) c ∷ []) (z .n) (z .m) w c
+    listingWith (z .family) (z .n ∷ z .m ∷ z .k ∷ M ∷ i ∷ products (z .n) c ∷ literals (z .n) c ∷ []) (z .n) (z .m) w c
 
 -- a listing that is not refused beside a table with the sizes z: it is the listing of some terms, whose coefficients have "bits m to 7 zero",
 -- and M and i have "one to four digits" (proofs/Exactness, `passes-exactly`)

@@ -1,11 +1,13 @@
--- What a listing beside a table means: the numbers of its first line and its rows, or the refusal that it meets. Document 02, W-201
--- and W-202.
-use mathlib.Core.Bool.{Bool, cond, _&&_}
+-- What a listing beside a table means: the numbers of its first line and its rows, or the refusal that it meets. Document 02, W-201,
+-- W-202 and W-203.
+use mathlib.Core.Bool.{Bool, true, false, cond, _&&_}
 use mathlib.Core.List.{List, [], _∷_}
 use Prim.Native.Nat.{ℕ}
 use lib.Dec.{eqb}
 use lib.ListN.{replicate}
 use Rattle.numbers.specs.Refusals.{sizesRefusal}
+use Rattle.expansions.specs.declared.families.Family.{Family}
+use Rattle.expansions.specs.declared.families.Family.the-variants.{One, Two}
 use Rattle.expansions.specs.Costs.{products, literals}
 use Rattle.listings.specs.Parts.{parts}
 use Rattle.lines.specs.declared.rows.Grammar.{Grammar}
@@ -24,9 +26,19 @@ pub data ListingReading : Type 0 where
 
 -- ---- the judgement
 
--- "n, m or k unlike the table's is 12 with line 1": the sizes z are a table's, and those of the listing are the same
+-- the families are the same
+unfoldable pub sameFamily : Family → Family → Bool
+sameFamily One One = true
+sameFamily One Two = false
+sameFamily Two One = false
+sameFamily Two Two = true
+
+-- "n, m or k unlike the table's is 12 with line 1", and "a listing of the other family than its table is 12, line 1": the sizes z are a table's, and those
+-- of the listing are the same, with the same family
 unfoldable pub alike : Sizes → Sizes → Bool
-alike z y = eqb (sizesRefusal (z .n) (z .m) (z .k)) 0 && (eqb (y .n) (z .n) && (eqb (y .m) (z .m) && eqb (y .k) (z .k)))
+alike z y =
+    eqb (sizesRefusal (z .n) (z .m) (z .k)) 0
+    && (eqb (y .n) (z .n) && (eqb (y .m) (z .m) && (eqb (y .k) (z .k) && sameFamily (y .family) (z .family))))
 
 -- "counts unlike the lines are 12 with line 1": the products and the literals that the first line states are those of the `term` lines
 unfoldable pub countsRight : ℕ → Form → List ℕ → Bool
@@ -38,7 +50,7 @@ unfoldable pub linesJudged : ℕ → Form → lines.RowsRead → ListingReading
 linesJudged n f (lines.rows values) = cond (countsRight n f values) (shown f values) (refused 12 1)
 linesJudged n f (lines.refused number line) = refused 11 line
 
--- a broken first line is 11; unlike sizes are 12 "before any later line is read"
+-- a broken first line is 11; unlike sizes, or another family, are 12 "before any later line is read"
 abbrev pub firstJudged : FirstLine → Sizes → (Form → ListingReading) → ListingReading
 firstJudged (States f) z next = cond (alike z (f .sizes)) (next f) (refused 12 1)
 firstJudged Wrong z next = refused 11 1
@@ -59,7 +71,7 @@ listingReading z s = allLines z (parts 10 s .first) (parts 10 s .others)
 
 -- ---- beside a `K` table
 
--- "a `K` table beside a `form` listing is 12": the number by the first line, which is 11 where it is no `form` line
+-- "a `K` table beside a `form` listing is 12": the number by the first line, which is 11 where it is no `form` or `form2` line
 abbrev pub besideLine : FirstLine → ℕ
 besideLine (States f) = 12
 besideLine Wrong = 11

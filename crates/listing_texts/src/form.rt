@@ -1,14 +1,16 @@
-// The first line of a listing: `form`, n, m, k, M, i, products, literals. Whether its numbers fit the table and the lines is judged later,
-// since a line that breaks the grammar is refused first.
+// The first line of a listing: `form` or `form2`, n, m, k, M, i, products, literals. Whether its family and its numbers fit the table and the
+// lines is judged later, since a line that breaks the grammar is refused first.
+use expansions::families::Family;
+use lines::fields::FamilyRead;
+use lines::fields::family_of;
 use lines::fields::field;
-use lines::fields::headed;
 use lines::values::Number;
 use lines::values::read_number;
 use table_texts::sizes::Sizes;
 ghost use mathlib.Core.Path.{_≡_};
 ghost use Rattle.listing_texts.specs.Form.{formOf, firstLine};
 
-// The numbers of a first line: the sizes, the mixed set M and the fixed polarity i as masks, and the counts.
+// What a first line states: the sizes with the family, the mixed set M and the fixed polarity i as masks, and the counts.
 pub struct Form {
     pub sizes: Sizes,
     pub mixed: usize,
@@ -23,8 +25,9 @@ pub enum FirstLine {
     Wrong,
 }
 
-// The numbers of a first line, where each is read.
+// The numbers of a first line, where each is read, with the family.
 fn form_of(
+    family: Family,
     n: Number,
     m: Number,
     k: Number,
@@ -33,7 +36,7 @@ fn form_of(
     products: Number,
     literals: Number,
 ) -> FirstLine
-    ensures { λ r. ⌜ r ≡ formOf n m k mixed fixed products literals ⌝ }
+    ensures { λ r. ⌜ r ≡ formOf family n m k mixed fixed products literals ⌝ }
 {
     let Number::Is(n) = n else {
         return FirstLine::Wrong;
@@ -56,7 +59,7 @@ fn form_of(
     let Number::Is(literals) = literals else {
         return FirstLine::Wrong;
     };
-    let sizes = Sizes { n, m, k };
+    let sizes = Sizes { n, m, k, family };
     FirstLine::States(Form {
         sizes,
         mixed,
@@ -66,14 +69,15 @@ fn form_of(
     })
 }
 
-// The first line: its numbers have one to four digits, and k has one.
+// The first line: its word is that of a family, its numbers have one to four digits, and k has one.
 pub fn first_line(line: &[u8]) -> FirstLine
     ensures { λ r. ⌜ r ≡ firstLine (now (line .entry)) ⌝ }
 {
-    if !headed(8, b"form", line) {
+    let FamilyRead::Is(family) = family_of(8, b"form", b"form2", line) else {
         return FirstLine::Wrong;
-    }
+    };
     form_of(
+        family,
         read_number(4, field(line, 1)),
         read_number(4, field(line, 2)),
         read_number(1, field(line, 3)),

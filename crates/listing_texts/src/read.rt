@@ -6,6 +6,7 @@ use crate::form::first_line;
 use crate::shown::bytes_of;
 use crate::shown::count_rows;
 use crate::shown::shown_blocks;
+use expansions::families::Family;
 use lines::cursor::Cursor;
 use lines::judge::PLACES;
 use lines::judge::RowsAnswer;
@@ -21,7 +22,7 @@ ghost use lib.ListN.{replicate};
 ghost use Rattle.numbers.specs.Bytes.{at};
 ghost use Rattle.lines.specs.Rows as rowsRead;
 ghost use Rattle.lines.specs.inner.Steps.{rowsAt, Within};
-ghost use Rattle.listing_texts.specs.Read.{alike, linesJudged, grammar, listingReading};
+ghost use Rattle.listing_texts.specs.Read.{sameFamily, alike, linesJudged, grammar, listingReading};
 ghost use Rattle.listing_texts.specs.Record.{shownRead, handedUp};
 ghost use Rattle.listing_texts.specs.inner.Judging.{standsFor};
 
@@ -44,7 +45,23 @@ enum Judged {
     Refused { number: usize, line: usize },
 }
 
-// Whether the sizes of a table are none that document 01 refuses, and those of the listing are the same.
+// Whether two families are the same.
+fn same_family(a: Family, b: Family) -> bool
+    ensures { λ r. ⌜ r ≡ sameFamily a b ⌝ }
+{
+    match a {
+        Family::One => match b {
+            Family::One => true,
+            Family::Two => false,
+        },
+        Family::Two => match b {
+            Family::One => false,
+            Family::Two => true,
+        },
+    }
+}
+
+// Whether the sizes of a table are none that document 01 refuses, and those of the listing are the same, and so is the family.
 fn alike(table: Sizes, listing: Sizes) -> bool
     ensures { λ r. ⌜ r ≡ alike table listing ⌝ }
 {
@@ -57,7 +74,12 @@ fn alike(table: Sizes, listing: Sizes) -> bool
     if listing.m != table.m {
         return false;
     }
-    listing.k == table.k
+    if listing.k != table.k {
+        return false;
+    }
+    let table_family = table.family;
+    let listing_family = listing.family;
+    same_family(listing_family, table_family)
 }
 
 // Judges the counts that the first line states, once every line has passed.
@@ -153,8 +175,8 @@ fn shown_listing(n: usize, form: Form, rows: &[u16; PLACES]) -> ListingRead
 }
 
 // Reads a listing beside a table with these sizes. It hands up the record that the lines show, a polarity that no cube shows being plain,
-// and the inputs that each cube shows complemented. It refuses a bad line by 11, with the line, and sizes or counts that are not the
-// table's or the lines' by 12, with line 1; then the record is the empty one.
+// and the inputs that each cube shows complemented. It refuses a bad line by 11, with the line, and a family, sizes or counts that are not
+// the table's or the lines' by 12, with line 1; then the record is the empty one.
 pub fn read_listing(sizes: Sizes, listing: &[u8]) -> ListingRead
     ensures { λ r. ⌜ r ≡ handedUp sizes (listingReading sizes (now (listing .entry))) ⌝ }
 {

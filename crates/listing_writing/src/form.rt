@@ -1,33 +1,47 @@
-// Writing the listing of an expansion of document 01's class: `form`, a line for each product, `end`.
+// Writing the listing of an expansion of document 01's class: `form` or `form2`, a line for each product, `end`.
 use crate::listed::Listed;
 use crate::terms::TERM;
 use crate::terms::begin_term;
 use crate::terms::end_term;
 use crate::terms::write_end;
+use expansions::families::Family;
 use search::expansion::Expansion;
 use search::polarity::term_polarity;
 use writing::line::digits_of;
 use writing::line::write_line;
 use writing::writer::Writer;
+ghost use mathlib.Core.Path.{_≡_};
 ghost use Prim.Native.Nat.{_+_, _*_, _^_, _≤_, _<_};
 ghost use lib.ListN.{length};
 ghost use Rattle.numbers.specs.Bytes.{at};
 ghost use Rattle.numbers.specs.Nonzero.{ifNonzero};
-ghost use Rattle.listings.specs.Listing.{formLine, termLine, productLines, listing};
+ghost use Rattle.listings.specs.Listing.{formWord, formLine, termLine, productLines, listing};
 ghost use Rattle.listings.specs.inner.Listable.{Listable};
-ghost use Rattle.listings.specs.inner.Lengths.{digitsOf};
 ghost use Rattle.writing.specs.Put.{Put};
 ghost use Rattle.listing_writing.specs.Write.{WriteListing};
 
-// The bytes of the first and the last line that are no digits: two words, seven tabs and two line ends.
-const FRAME: usize = 16;
+// The bytes of the first and the last line besides the first word and the digits: the word `end`, seven tabs and two line ends.
+const FRAME: usize = 12;
 
-// The first line: `form` and the numbers.
-fn write_form(start: Writer, out: &mut [u8], numbers: &[usize]) -> Writer
-    requires { ⌜ (length (now numbers) ≤ 7) × (start .at + (5 + length (now numbers) + digitsOf (now numbers)) ≤ length (now out)) ⌝ }
-    ensures { λ r. ⌜ Put (now (out .entry)) (start .at) (formLine (now (numbers .entry))) (now (out .exit)) (r .at) ⌝ }
+// The bytes of the first word.
+fn word_length(family: Family) -> usize
+    ensures { λ r. ⌜ r ≡ length (formWord family) ⌝ }
 {
-    write_line(start, out, b"form", numbers)
+    match family {
+        Family::One => 4,
+        Family::Two => 5,
+    }
+}
+
+// The first line: the word of the family, and the numbers.
+fn write_form(family: Family, start: Writer, out: &mut [u8], numbers: &[usize]) -> Writer
+    requires { ⌜ (length (now numbers) ≤ 7) × (start .at + length (formLine family (now numbers)) ≤ length (now out)) ⌝ }
+    ensures { λ r. ⌜ Put (now (out .entry)) (start .at) (formLine family (now (numbers .entry))) (now (out .exit)) (r .at) ⌝ }
+{
+    match family {
+        Family::One => write_line(start, out, b"form", numbers),
+        Family::Two => write_line(start, out, b"form2", numbers),
+    }
 }
 
 // The line of the term t under the polarity w, where its coefficient c is not 0, and nothing where it is.
@@ -76,21 +90,28 @@ fn write_terms(
     place
 }
 
-// Writes the listing of an expansion of n inputs, m outputs and k mixed inputs into the front of `out`, and gives its length. The record
-// states the products that its coefficients have. Where `out` is shorter than the listing it says so, and changes no byte; bytes past the
-// listing keep what they held.
-pub fn write_listing(n: usize, m: usize, k: usize, e: Expansion, out: &mut [u8]) -> Listed
+// Writes the listing of an expansion of n inputs, m outputs and k mixed inputs, for a part of the family, into the front of `out`, and gives its
+// length. The record states the products that its coefficients have. Where `out` is shorter than the listing it says so, and changes no byte; bytes
+// past the listing keep what they held.
+pub fn write_listing(
+    family: Family,
+    n: usize,
+    m: usize,
+    k: usize,
+    e: Expansion,
+    out: &mut [u8],
+) -> Listed
     requires { ⌜ Listable n m e ⌝ }
-    ensures { λ r. ⌜ WriteListing (listing n m k e) (now (out .entry)) r (now (out .exit)) ⌝ }
+    ensures { λ r. ⌜ WriteListing (listing family n m k e) (now (out .entry)) r (now (out .exit)) ⌝ }
 {
     let numbers = [n, m, k, e.mixed, e.fixed, e.products, e.literals];
-    let length = FRAME + digits_of(&numbers) + e.products * (n + m + TERM);
+    let length = FRAME + word_length(family) + digits_of(&numbers) + e.products * (n + m + TERM);
     if out.len() < length {
         return Listed::Short;
     }
     let coefficients = e.coefficients;
     let blocks = e.blocks;
-    let terms = write_form(Writer { at: 0 }, out, &numbers);
+    let terms = write_form(family, Writer { at: 0 }, out, &numbers);
     let end = write_terms(terms, out, n, m, e.mixed, e.fixed, &coefficients, &blocks);
     let stop = write_end(end, out);
     Listed::Length(stop.at)

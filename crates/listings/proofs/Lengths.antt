@@ -1,5 +1,5 @@
--- How long the parts of a listing are. The length of a listing follows from the digits of its numbers and the number of its products
--- (`length-listing`).
+-- How long the parts of a listing are. The length of a listing follows from its first word, the digits of its numbers and the number of its
+-- products (`length-listing`).
 use lib.Pow.{pow-mono}
 use Rattle.expansions.proofs.Costs.{products-le}
 use mathlib.Core.List.{List, [], _∷_, _++_, map, map-append, append-assoc, append-nil}
@@ -15,18 +15,20 @@ use Rattle.numbers.specs.Bytes.{at}
 use Rattle.numbers.specs.Nonzero.{ifNonzero, overNonzero}
 use Rattle.numbers.specs.Sums.{foldBelow, sumBelow}
 use Rattle.expansions.specs.Costs.{counted, products}
+use Rattle.expansions.specs.declared.families.Family.{Family}
+use Rattle.expansions.specs.declared.families.Family.the-variants.{One, Two}
 use Rattle.expansions.specs.Members.{polarity}
 use Rattle.search.specs.declared.expansion.Expansion.{Expansion}
 use Rattle.listings.specs.Parts.{bytes}
-use Rattle.listings.specs.Listing.{tabbed, line, digitCount, decimal, cube, outputBytes, numbersOf, formLine, cubeLine, cubeLines, listingAfter, listingWith, listing}
+use Rattle.listings.specs.Listing.{tabbed, line, digitCount, decimal, cube, outputBytes, numbersOf, formWord, formLine, cubeLine, cubeLines, listingAfter, listingWith, listing}
 use Rattle.listings.specs.inner.Listable.{Listable}
 use Rattle.listings.specs.inner.Lengths.{digitsOf}
 use Rattle.listings.proofs.Characters.{length-decimal, digitCount-in, length-cube, length-outputs}
 
--- its length, from the digits of its numbers and the number of its products (`length-listing`)
-unfoldable pub listingLength : ℕ → ℕ → ℕ → Expansion → ℕ
-listingLength n m k e =
-    12 + digitsOf (numbersOf n m k e)
+-- its length, from its first word, the digits of its numbers and the number of its products (`length-listing`)
+unfoldable pub listingLength : Family → ℕ → ℕ → ℕ → Expansion → ℕ
+listingLength family n m k e =
+    8 + length (formWord family) + digitsOf (numbersOf n m k e)
     + products n (at (e .coefficients)) * (5 + n + 1 + m + 1) + 4
 
 -- ---- numbers, each after a tab
@@ -110,9 +112,21 @@ cubeLines-le m x c t (suc N) h = go (ℕ-discrete t N) (λ g. cubeLines-le m x c
   go (yes e) ih = rw (last, e) (omega arith)
   go (no e) ih = omega (arith, last, ih (omega arith))
 
-pub length-formLine : (xs : List ℕ) → length (formLine xs) ≡ 5 + length xs + digitsOf xs
-unfolding formLine line bytes
-length-formLine xs = omega (arith, length-append (tabbed (map decimal xs)) (10 ∷ []), length-numbers xs)
+-- `form2` is the longer of the two words
+pub length-formWord : (family : Family) → length (formWord family) ≤ 5
+unfolding formWord bytes
+length-formWord One = omega arith
+length-formWord Two = omega arith
+
+pub length-formLine : (family : Family) (xs : List ℕ) → length (formLine family xs) ≡ 1 + length xs + length (formWord family) + digitsOf xs
+unfolding formLine line
+length-formLine family xs =
+    omega (
+      arith,
+      length-append (formWord family ++ tabbed (map decimal xs)) (10 ∷ []),
+      length-append (formWord family) (tabbed (map decimal xs)),
+      length-numbers xs,
+    )
 
 -- ---- the listing
 
@@ -127,15 +141,17 @@ length-listingAfter first n m x c h =
     length-three first (cubeLines m x c (2 ^ n)) (line (bytes "end") [])
     ∙ rw (length-cubeLines n m x c h (2 ^ n))
 
-pub length-listingWith : (numbers : List ℕ) (n m : ℕ) (w c : ℕ → ℕ)
-    → length (listingWith numbers n m w c) ≡ 5 + length numbers + digitsOf numbers + products n c * (5 + n + 1 + m + 1) + 4
+pub length-listingWith : (family : Family) (numbers : List ℕ) (n m : ℕ) (w c : ℕ → ℕ)
+    → length (listingWith family numbers n m w c)
+    ≡ 1 + length numbers + length (formWord family) + digitsOf numbers + products n c * (5 + n + 1 + m + 1) + 4
 unfolding listingWith
-length-listingWith numbers n m w c =
-    length-listingAfter (formLine numbers) n m (λ t. cube n t (w t)) c (λ t. length-cube n t (w t)) ∙ rw (length-formLine numbers)
+length-listingWith family numbers n m w c =
+    length-listingAfter (formLine family numbers) n m (λ t. cube n t (w t)) c (λ t. length-cube n t (w t)) ∙ rw (length-formLine family numbers)
 
-pub length-listing : (n m k : ℕ) (e : Expansion) → length (listing n m k e) ≡ listingLength n m k e
+pub length-listing : (family : Family) (n m k : ℕ) (e : Expansion) → length (listing family n m k e) ≡ listingLength family n m k e
 unfolding listing listingLength
-length-listing n m k e = length-listingWith (numbersOf n m k e) n m (polarity n (e .mixed) (e .fixed) (at (e .blocks))) (at (e .coefficients))
+length-listing family n m k e =
+    length-listingWith family (numbersOf n m k e) n m (polarity n (e .mixed) (e .fixed) (at (e .blocks))) (at (e .coefficients))
 
 -- ---- from the products that a record states
 
@@ -158,14 +174,14 @@ module _ (n m p : ℕ) (c : ℕ → ℕ) (counted : p ≡ products n c) where
       let most : p ≤ 256 = omega (arith, counted, products-le n c, pow-mono {i = n} {j = 8} hn) in
       mul-le-mul {n₁ = p} {m₁ = n + m + 7} {n₂ = 256} {m₂ = 23} most (omega arith)
 
--- the length of a record's listing, from the digits of its numbers and the products that it states
-pub listing-stated : (n m k : ℕ) (e : Expansion) → Listable n m e
-    → 16 + digitsOf (numbersOf n m k e) + e .products * (n + m + 7) ≡ length (listing n m k e)
+-- the length of a record's listing, from its first word, the digits of its numbers and the products that it states
+pub listing-stated : (family : Family) (n m k : ℕ) (e : Expansion) → Listable n m e
+    → 12 + length (formWord family) + digitsOf (numbersOf n m k e) + e .products * (n + m + 7) ≡ length (listing family n m k e)
 unfolding listing listingWith
-listing-stated n m k e f =
+listing-stated family n m k e f =
     omega (
       arith,
-      length-stated n m (e .products) (at (e .coefficients)) (f .counted) (formLine (numbersOf n m k e))
+      length-stated n m (e .products) (at (e .coefficients)) (f .counted) (formLine family (numbersOf n m k e))
           (λ t. cube n t (polarity n (e .mixed) (e .fixed) (at (e .blocks)) t)) (λ t. length-cube n t _),
-      length-formLine (numbersOf n m k e),
+      length-formLine family (numbersOf n m k e),
     )

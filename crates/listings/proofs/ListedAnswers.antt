@@ -6,6 +6,7 @@ use Rattle.numbers.specs.Bytes.{at}
 use Rattle.search.proofs.expansion.Answer.{Answered}
 use Rattle.search.specs.declared.expansion.Expansion.{Expansion}
 use Rattle.expansions.specs.Members.{polarity}
+use Rattle.expansions.specs.declared.families.Family.{Family}
 use Rattle.expansions.specs.declared.kinds.Kind.the-variants.{Block}
 use Rattle.expansions.specs.Costs.{NoDearer}
 use Rattle.expansions.proofs.Costs.{literals-lt}
@@ -15,7 +16,7 @@ use Rattle.listings.specs.inner.Listable.{Listable}
 use Rattle.listings.specs.Meaning.{listingValue, listingProducts, listingLiterals, IsListing}
 use Rattle.listings.proofs.Meaning.{listing-value, listing-products, listing-literals, stated-products, stated-literals}
 
-module _ (n m k : ℕ) (e : Expansion) (f : ℕ → ℕ) (hn : n ≤ 8) (hm : m ≤ 8) (hk : k ≤ 3) (minimal : Answered n k f e) where
+module _ (family : Family) (n m k : ℕ) (e : Expansion) (f : ℕ → ℕ) (hn : n ≤ 8) (hm : m ≤ 8) (hk : k ≤ 3) (minimal : Answered n k f e) where
   w : ℕ → ℕ
   w = polarity n (e .mixed) (e .fixed) (at (e .blocks))
 
@@ -26,25 +27,25 @@ module _ (n m k : ℕ) (e : Expansion) (f : ℕ → ℕ) (hn : n ≤ 8) (hm : m 
   few : e .literals < 10000
   few = omega (arith, minimal .literals-counted, literals-lt n (at (e .coefficients)) hn)
 
-  answer-given : ((t : ℕ) → t < 2 ^ n → at (e .coefficients) t < 2 ^ m) → (p : ℕ) → p < 2 ^ n → listingValue (listing n m k e) p ≡ f p
+  answer-given : ((t : ℕ) → t < 2 ^ n → at (e .coefficients) t < 2 ^ m) → (p : ℕ) → p < 2 ^ n → listingValue (listing family n m k e) p ≡ f p
   unfolding listing w
-  answer-given small p h = listing-value (numbersOf n m k e) n m w (at (e .coefficients)) small p ∙ minimal .answer .gives p h
+  answer-given small p h = listing-value family (numbersOf n m k e) n m w (at (e .coefficients)) small p ∙ minimal .answer .gives p h
 
-  counts-products : listingProducts (listing n m k e) ≡ e .products
+  counts-products : listingProducts (listing family n m k e) ≡ e .products
   unfolding listing w
-  counts-products = listing-products (numbersOf n m k e) n m w (at (e .coefficients)) ∙ sym (minimal .products-counted)
+  counts-products = listing-products family (numbersOf n m k e) n m w (at (e .coefficients)) ∙ sym (minimal .products-counted)
 
-  counts-literals : listingLiterals (listing n m k e) ≡ e .literals
+  counts-literals : listingLiterals (listing family n m k e) ≡ e .literals
   unfolding listing w
-  counts-literals = listing-literals (numbersOf n m k e) n m w (at (e .coefficients)) ∙ sym (minimal .literals-counted)
+  counts-literals = listing-literals family (numbersOf n m k e) n m w (at (e .coefficients)) ∙ sym (minimal .literals-counted)
 
   -- demand 3
-  pub answer-listed : ((t : ℕ) → t < 2 ^ n → at (e .coefficients) t < 2 ^ m) → IsListing n (Block k) f (listing n m k e)
+  pub answer-listed : ((t : ℕ) → t < 2 ^ n → at (e .coefficients) t < 2 ^ m) → IsListing n (Block k) f (listing family n m k e)
   answer-listed small =
       record {
         gives = answer-given small;
-        products-stated = stated-products n m k e answer-listable (omega arith) few ∙ sym counts-products;
-        literals-stated = stated-literals n m k e answer-listable (omega arith) few ∙ sym counts-literals;
+        products-stated = stated-products family n m k e answer-listable (omega arith) few ∙ sym counts-products;
+        literals-stated = stated-literals family n m k e answer-listable (omega arith) few ∙ sym counts-literals;
         cheapest =
             rw (counts-products, counts-literals) (block-rivals n k f (NoDearer (e .products) (e .literals)) (minimal .cheapest));
       }

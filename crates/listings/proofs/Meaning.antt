@@ -22,13 +22,15 @@ use Rattle.numbers.proofs.Nonzero.{nonzero-none, nonzero-some}
 use Rattle.numbers.proofs.Sums.{fold-ext}
 use Rattle.numbers.proofs.Tests.{only-zero}
 use Rattle.numbers.proofs.Xor.{xor-assoc}
+use Rattle.expansions.specs.declared.families.Family.{Family}
+use Rattle.expansions.specs.declared.families.Family.the-variants.{One, Two}
 use Rattle.expansions.specs.Costs.{counted, products, literals}
 use Rattle.expansions.specs.Members.{polarity}
 use Rattle.search.specs.declared.expansion.Expansion.{Expansion}
 use Rattle.expansions.proofs.Counted.{counted-none, counted-some}
 use Rattle.expansions.proofs.Costs.{products-le}
 use Rattle.listings.specs.Parts.{parts, bytes, same, fields}
-use Rattle.listings.specs.Listing.{tabbed, line, digitCount, decimal, cubeByte, cube, outputBytes, numbersOf, formLine, cubeLine, cubeLines, printedCubes, listingAfter, listingWith, listing}
+use Rattle.listings.specs.Listing.{tabbed, line, digitCount, decimal, cubeByte, cube, outputBytes, numbersOf, formWord, formLine, cubeLine, cubeLines, printedCubes, listingAfter, listingWith, listing}
 use Rattle.listings.specs.inner.Listable.{Listable}
 use Rattle.listings.specs.Meaning.{cubeTrue, literalsIn, outputsSaid, finished, linesOf, ofTerm, overLines, overTerms}
 use Rattle.listings.specs.Meaning.{listingValue, listingProducts, listingLiterals, listingCubes, numberSaid, firstNumbers, statedProducts, statedLiterals}
@@ -59,9 +61,10 @@ pub plain-outputs : (m c : ℕ) → Plain (outputBytes m c)
 unfolding outputBytes
 plain-outputs m c = plain-tabulate m (λ o. 48 + bit o c) (λ o. omega arith)
 
-pub plain-form : Plain (bytes "form")
-unfolding bytes
-plain-form = (lit< tt, (lit< tt, (lit< tt, (lit< tt, tt))))
+pub plain-form : (family : Family) → Plain (formWord family)
+unfolding formWord bytes
+plain-form One = (lit< tt, (lit< tt, (lit< tt, (lit< tt, tt))))
+plain-form Two = (lit< tt, (lit< tt, (lit< tt, (lit< tt, (lit< tt, tt)))))
 
 pub plain-term : Plain (bytes "term")
 unfolding bytes
@@ -139,18 +142,22 @@ over-counted op assoc left right g word fs h n m x c plain =
     part : ℕ → ℕ
     part t = counted (c t) (said t)
 
--- the first line of a `form` listing
-form-heading : (numbers : List ℕ) → Heading (bytes "form") (map decimal numbers)
-unfolding bytes same
-form-heading numbers = record { plain-word = plain-form; plain-fields = plain-numbers numbers; other = refl }
+-- the first line of a `form` or a `form2` listing
+other-form : (family : Family) → same (formWord family) (bytes "term") ≡ false
+unfolding formWord bytes same
+other-form One = refl
+other-form Two = refl
+
+form-heading : (family : Family) (numbers : List ℕ) → Heading (formWord family) (map decimal numbers)
+form-heading family numbers = record { plain-word = plain-form family; plain-fields = plain-numbers numbers; other = other-form family }
 
 -- the cubes, one for each product
-pub listing-cubes : (numbers : List ℕ) (n m : ℕ) (w c : ℕ → ℕ) → listingCubes (listingWith numbers n m w c) ≡ printedCubes n w c
+pub listing-cubes : (family : Family) (numbers : List ℕ) (n m : ℕ) (w c : ℕ → ℕ) → listingCubes (listingWith family numbers n m w c) ≡ printedCubes n w c
 unfolding listingCubes overNonzero listingWith formLine
-listing-cubes numbers n m w c =
+listing-cubes family numbers n m w c =
     over-listing _++_ [] append-assoc (λ a. refl) append-nil (λ x outputs. x ∷ []) m (λ t. cube n t (w t)) c (λ t. plain-cube n t (w t)) cubes refl
     (λ t z. ap (λ (l : List (List ℕ)). cubes t ++ l) (nonzero-none (c t) (cube n t (w t) ∷ []) z) ∙ append-nil (cubes t))
-    (λ t z. ap (λ (l : List (List ℕ)). cubes t ++ l) (nonzero-some (c t) (cube n t (w t) ∷ []) z)) (bytes "form") (map decimal numbers) n (form-heading numbers)
+    (λ t z. ap (λ (l : List (List ℕ)). cubes t ++ l) (nonzero-some (c t) (cube n t (w t) ∷ []) z)) (formWord family) (map decimal numbers) n (form-heading family numbers)
   where
     cubes : ℕ → List (List ℕ)
     cubes N = overNonzero (λ t. cube n t (w t) ∷ []) c N
@@ -179,24 +186,24 @@ module _ (word : List ℕ) (fs : List (List ℕ)) (h : Heading word fs) (n m : �
   unfolding listingLiterals
   cubes-literals = over-counted _+_ add-assoc zero-add add-zero (λ cube outputs. literalsIn cube) word fs h n m x c plain
 
-module _ (numbers : List ℕ) (n m : ℕ) (w c : ℕ → ℕ) where
+module _ (family : Family) (numbers : List ℕ) (n m : ℕ) (w c : ℕ → ℕ) where
   x : ℕ → List ℕ
   x t = cube n t (w t)
 
-  pub listing-value : ((t : ℕ) → t < 2 ^ n → c t < 2 ^ m) → (p : ℕ) → listingValue (listingWith numbers n m w c) p ≡ value n w c p
+  pub listing-value : ((t : ℕ) → t < 2 ^ n → c t < 2 ^ m) → (p : ℕ) → listingValue (listingWith family numbers n m w c) p ≡ value n w c p
   unfolding value listingWith formLine x
   listing-value small p =
-      cubes-value (bytes "form") (map decimal numbers) (form-heading numbers) n m x c (λ t. plain-cube n t (w t)) small p
+      cubes-value (formWord family) (map decimal numbers) (form-heading family numbers) n m x c (λ t. plain-cube n t (w t)) small p
       ∙ fold-ext bitXor (2 ^ n) _ _ (λ t l. ap (λ (b : Bool). only b (c t)) (cube-holds n t (w t) p l))
 
-  pub listing-products : listingProducts (listingWith numbers n m w c) ≡ products n c
+  pub listing-products : listingProducts (listingWith family numbers n m w c) ≡ products n c
   unfolding listingWith formLine x
-  listing-products = cubes-products (bytes "form") (map decimal numbers) (form-heading numbers) n m x c (λ t. plain-cube n t (w t))
+  listing-products = cubes-products (formWord family) (map decimal numbers) (form-heading family numbers) n m x c (λ t. plain-cube n t (w t))
 
-  pub listing-literals : listingLiterals (listingWith numbers n m w c) ≡ literals n c
+  pub listing-literals : listingLiterals (listingWith family numbers n m w c) ≡ literals n c
   unfolding literals listingWith formLine x
   listing-literals =
-      cubes-literals (bytes "form") (map decimal numbers) (form-heading numbers) n m x c (λ t. plain-cube n t (w t))
+      cubes-literals (formWord family) (map decimal numbers) (form-heading family numbers) n m x c (λ t. plain-cube n t (w t))
       ∙ fold-ext _+_ (2 ^ n) _ _ (λ t l. ap (λ (x : ℕ). counted (c t) x) (cube-literals n t _ l))
 
 -- ---- the numbers of the first line
@@ -219,13 +226,13 @@ heading-numbers word fs h n m x c =
     ap firstNumbers (append-assoc (line word fs) (cubeLines m x c (2 ^ n)) (line (bytes "end") []))
     ∙ rw (parts-lines word fs after (h .plain-word) (h .plain-fields), parts-fields word fs (h .plain-word) (h .plain-fields))
 
--- the numbers that a `form` listing states on its first line
-pub listing-numbers : (numbers : List ℕ) (n m : ℕ) (w c : ℕ → ℕ) → Small numbers → firstNumbers (listingWith numbers n m w c) ≡ numbers
+-- the numbers that a `form` or a `form2` listing states on its first line
+pub listing-numbers : (family : Family) (numbers : List ℕ) (n m : ℕ) (w c : ℕ → ℕ) → Small numbers → firstNumbers (listingWith family numbers n m w c) ≡ numbers
 unfolding listingWith formLine
-listing-numbers numbers n m w c small =
-    heading-numbers (bytes "form") (map decimal numbers) (form-heading numbers) n m (λ t. cube n t (w t)) c ∙ numbers-said numbers small
+listing-numbers family numbers n m w c small =
+    heading-numbers (formWord family) (map decimal numbers) (form-heading family numbers) n m (λ t. cube n t (w t)) c ∙ numbers-said numbers small
 
-module _ (n m k : ℕ) (e : Expansion) (f : Listable n m e) (digit : k < 10) (few : e .literals < 10000) where
+module _ (family : Family) (n m k : ℕ) (e : Expansion) (f : Listable n m e) (digit : k < 10) (few : e .literals < 10000) where
   small-numbers : Small (numbersOf n m k e)
   small-numbers =
       let size : 2 ^ n ≤ 256 = pow-mono {i = n} {j = 8} (f .inputs) in
@@ -233,12 +240,12 @@ module _ (n m k : ℕ) (e : Expansion) (f : Listable n m e) (digit : k < 10) (fe
       (omega arith, (omega arith, (omega arith, (omega arith, (omega arith, (omega arith, (few, tt)))))))
 
   -- n, m, k, M, i, products and literals
-  stated-numbers : firstNumbers (listing n m k e) ≡ numbersOf n m k e
+  stated-numbers : firstNumbers (listing family n m k e) ≡ numbersOf n m k e
   unfolding listing
-  stated-numbers = listing-numbers (numbersOf n m k e) n m (polarity n (e .mixed) (e .fixed) (at (e .blocks))) (at (e .coefficients)) small-numbers
+  stated-numbers = listing-numbers family (numbersOf n m k e) n m (polarity n (e .mixed) (e .fixed) (at (e .blocks))) (at (e .coefficients)) small-numbers
 
-  pub stated-products : statedProducts (listing n m k e) ≡ e .products
+  pub stated-products : statedProducts (listing family n m k e) ≡ e .products
   stated-products = ap (λ (xs : List ℕ). getD xs (length xs - 2) 0) stated-numbers
 
-  pub stated-literals : statedLiterals (listing n m k e) ≡ e .literals
+  pub stated-literals : statedLiterals (listing family n m k e) ≡ e .literals
   stated-literals = ap (λ (xs : List ℕ). getD xs (length xs - 1) 0) stated-numbers

@@ -1,10 +1,11 @@
--- Two words compared byte by byte: what is left of the question after each byte, and that words that pass are one (`same-equal`).
+-- Two words compared byte by byte: what is left of the question after each byte, and that words pass exactly where they are one (`same-equal`,
+-- `same-self`).
 use mathlib.Core.Bool.{true, false, _&&_, and-false, false≢true}
 use mathlib.Core.List.{List, [], _∷_}
 use mathlib.Core.Path.{_≡_, refl, ap, ap₂}
 use Prim.Native.Nat.{ℕ, suc, _+_, _<_, _≤_}
 use native.Mathlib.Numerals.{add-one}
-use borrow.Author.Tests.{eqb-true}
+use borrow.Author.Tests.{eqb-true, eq-eqb}
 use lib.Dec.{eqb}
 use lib.ListN.{length, getD, drop, drop-of-length-le}
 use lib.Seq.{drop-cons}
@@ -27,6 +28,11 @@ same-equal [] (w ∷ ws) e = absurd (false≢true e)
 same-equal (b ∷ f) [] e = absurd (false≢true e)
 same-equal (b ∷ f) (w ∷ ws) e =
     ap₂ _∷_ (eqb-true b w (both-left (eqb b w) (same f ws) e)) (same-equal f ws (both-right (eqb b w) (same f ws) e))
+
+pub same-self : (w : List ℕ) → same w w ≡ true
+unfolding same
+same-self [] = refl
+same-self (w ∷ ws) = rw (eq-eqb w w refl, same-self ws)
 
 pub same-step : (f w : List ℕ) (k : ℕ) → k < length f → k < length w
     → same (drop k f) (drop k w) ≡ (eqb (getD f k 0) (getD w k 0) && same (drop (k + 1) f) (drop (k + 1) w))

@@ -1,4 +1,5 @@
 -- The listing of an expansion, byte by byte. Document 01, "Text in, listing out": "A listing .. is: `form` ..; one line for each product ..; `end`."
+-- Document 02, W-203: the listing of a `table2` text begins `form2`.
 use mathlib.Core.Bool.{cond}
 use mathlib.Core.List.{List, [], _∷_, _++_, map}
 use Prim.Native.Nat.{ℕ, zero, suc, _+_, _/_, _%_, _^_}
@@ -6,6 +7,8 @@ use lib.Dec.{ltb}
 use Rattle.numbers.specs.Bytes.{at, tabulate}
 use Rattle.numbers.specs.Bits.{bit}
 use Rattle.numbers.specs.Nonzero.{overNonzero}
+use Rattle.expansions.specs.declared.families.Family.{Family}
+use Rattle.expansions.specs.declared.families.Family.the-variants.{One, Two}
 use Rattle.expansions.specs.Members.{polarity}
 use Rattle.search.specs.declared.expansion.Expansion.{Expansion}
 use Rattle.listings.specs.Parts.{bytes}
@@ -59,9 +62,14 @@ outputBytes m c = tabulate m (λ o. 48 + bit o c)
 abbrev pub numbersOf : ℕ → ℕ → ℕ → Expansion → List ℕ
 numbersOf n m k e = n ∷ m ∷ k ∷ e .mixed ∷ e .fixed ∷ e .products ∷ e .literals ∷ []
 
--- "`form`, n, m, k (a digit), M, i, products, literals."
-unfoldable pub formLine : List ℕ → List ℕ
-formLine numbers = line (bytes "form") (map decimal numbers)
+-- the word that a listing begins with: "`form`", and document 02, W-203, of a table that begins `table2`: "Its listing begins `form2`."
+unfoldable pub formWord : Family → List ℕ
+formWord One = bytes "form"
+formWord Two = bytes "form2"
+
+-- "`form`, n, m, k (a digit), M, i, products, literals.", with the word of the family
+unfoldable pub formLine : Family → List ℕ → List ℕ
+formLine family numbers = line (formWord family) (map decimal numbers)
 
 -- "`term`, cube, outputs": the cube x, with the coefficient c
 unfoldable pub cubeLine : ℕ → List ℕ → ℕ → List ℕ
@@ -92,10 +100,10 @@ printedCubes n w c = overNonzero (λ t. cube n t (w t) ∷ []) c (2 ^ n)
 abbrev pub listingAfter : List ℕ → ℕ → ℕ → (ℕ → List ℕ) → (ℕ → ℕ) → List ℕ
 listingAfter first n m x c = first ++ cubeLines m x c (2 ^ n) ++ line (bytes "end") []
 
--- a whole listing with these numbers on its first line, of n inputs and m outputs: each term t has the polarity w t and the coefficient c t
-unfoldable pub listingWith : List ℕ → ℕ → ℕ → (ℕ → ℕ) → (ℕ → ℕ) → List ℕ
-listingWith numbers n m w c = listingAfter (formLine numbers) n m (λ t. cube n t (w t)) c
+-- a whole listing of a family with these numbers on its first line, of n inputs and m outputs: each term t has the polarity w t and the coefficient c t
+unfoldable pub listingWith : Family → List ℕ → ℕ → ℕ → (ℕ → ℕ) → (ℕ → ℕ) → List ℕ
+listingWith family numbers n m w c = listingAfter (formLine family numbers) n m (λ t. cube n t (w t)) c
 
--- the whole listing of the expansion e, of n inputs, m outputs and k mixed inputs
-unfoldable pub listing : ℕ → ℕ → ℕ → Expansion → List ℕ
-listing n m k e = listingWith (numbersOf n m k e) n m (polarity n (e .mixed) (e .fixed) (at (e .blocks))) (at (e .coefficients))
+-- the whole listing of the expansion e, of n inputs, m outputs and k mixed inputs, for a part of the family
+unfoldable pub listing : Family → ℕ → ℕ → ℕ → Expansion → List ℕ
+listing family n m k e = listingWith family (numbersOf n m k e) n m (polarity n (e .mixed) (e .fixed) (at (e .blocks))) (at (e .coefficients))

@@ -14,7 +14,7 @@ use Rattle.table_texts.specs.declared.first.KindRead.the-variants as kin
 use Rattle.table_texts.specs.declared.first.FirstLine.the-variants as first
 use Rattle.table_texts.specs.declared.read.ReadAnswer.the-variants as answer
 use Rattle.table_texts.specs.declared.sizes.Design.{Design}
-use Rattle.table_texts.specs.First.{kindOf}
+use Rattle.table_texts.specs.First.{kindOf, tableWord}
 use Rattle.table_texts.specs.Design.{DesignSized}
 use Rattle.table_texts.specs.Accepted.{Accepted}
 use Rattle.table_texts.specs.Read.{given, withDesign, judgedFirst, allLines, reading}
@@ -36,7 +36,7 @@ text-accepted k d t p e g =
     let fs : List (List ℕ) = decimal (d .n) ∷ decimal (d .m) ∷ k ∷ [] in
     ap reading (append-assoc (designLine d k) (pointLines (d .m) (at t) (2 ^ d .n)) (line (bytes "end") []))
     ∙ rw (
-      parts-lines (bytes "table") fs after plain-table (plain-decimal (d .n), (plain-decimal (d .m), (p, tt))),
+      parts-lines (tableWord (d .family)) fs after (plain-table (d .family)) (plain-decimal (d .n), (plain-decimal (d .m), (p, tt))),
       design-said d k (omega (arith, g .sized .inputs)) (omega (arith, g .sized .outputs)) p e,
       design-judged d (g .sized),
       points-written (d .n) (d .m) few 2 t (g .table),

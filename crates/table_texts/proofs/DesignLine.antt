@@ -1,5 +1,6 @@
 -- The first line of a table text. It is read as the design that it was written for (`design-said`), and a line that says a design is the line that
--- is written for it, with the digit k or `K`, or where k is 1 with `-` (`design-read`, `kind-read`).
+-- is written for it, with the digit k or `K`, or where k is 1 with `-` (`design-read`, `kind-read`). With `table2` and `K` it is refused by 1
+-- (`kronecker-two`).
 use mathlib.Core.Bool.{Bool, true, false, cond}
 use mathlib.Core.List.{List, [], _∷_, _++_}
 use mathlib.Core.Logic.{_⊎_, inl, inr}
@@ -8,25 +9,31 @@ use Prim.Native.Nat.{ℕ, _+_, _<_}
 use native.Mathlib.Omega.{arith}
 use borrow.Author.Tests.{ne-eqb}
 use lib.Dec.{eqb, lit<}
+use Rattle.expansions.specs.declared.families.Family.{Family}
+use Rattle.expansions.specs.declared.families.Family.the-variants.{One, Two}
 use Rattle.expansions.specs.declared.kinds.Kind.{Kind}
 use Rattle.expansions.specs.declared.kinds.Kind.the-variants.{Block, Kronecker}
 use Rattle.listings.specs.Parts.{parts, bytes, same, fields, field}
 use Rattle.listings.specs.Listing.{tabbed, decimal}
-use Rattle.listings.proofs.Joined.{Plain, parts-fields}
+use Rattle.listings.proofs.Joined.{Plain, AllPlain, parts-fields}
 use Rattle.listings.proofs.Meaning.{plain-decimal}
 use Rattle.listings.proofs.Words.{same-equal}
+use Rattle.lines.specs.declared.fields.FamilyRead.{FamilyRead}
+use Rattle.lines.specs.declared.fields.FamilyRead.the-variants as family
 use Rattle.lines.specs.declared.values.Number.{Number}
 use Rattle.lines.specs.declared.values.Number.the-variants.{Is, Wrong}
-use Rattle.lines.specs.Fields.{oneDigit, headed}
+use Rattle.lines.specs.Fields.{oneDigit, familyOf, familyThen}
 use Rattle.lines.proofs.Written.{decimal-one, oneDigit-decimal}
 use Rattle.lines.proofs.FieldsRead.{oneDigit-read}
-use Rattle.lines.proofs.Headed.{list-each, headed-read}
+use Rattle.lines.proofs.Headed.{list-each, family-said, family-read}
 use Rattle.table_texts.specs.declared.first.KindRead.{KindRead}
 use Rattle.table_texts.specs.declared.first.KindRead.the-variants as kind
 use Rattle.table_texts.specs.declared.first.FirstLine.the-variants as first
 use Rattle.table_texts.specs.declared.sizes.Design.{Design}
-use Rattle.table_texts.specs.Design.{KindSized}
-use Rattle.table_texts.specs.First.{digitKind, kindOf, tableLine, firstLine}
+use Rattle.table_texts.specs.declared.read.ReadAnswer.the-variants as answer
+use Rattle.table_texts.specs.Design.{designRefusal, KindSized}
+use Rattle.table_texts.specs.First.{digitKind, kindOf, tableLine, tableWord, firstLine}
+use Rattle.table_texts.specs.Read.{judgedFirst}
 use Rattle.table_texts.specs.TableTexts.{kindField}
 
 -- ---- the kind of k
@@ -77,9 +84,14 @@ kind-read f x e = go (same f (bytes "-")) refl (same f (bytes "K")) refl e where
 
 -- ---- what is written is read
 
-pub plain-table : Plain (bytes "table")
-unfolding bytes
-plain-table = (lit< tt, (lit< tt, (lit< tt, (lit< tt, (lit< tt, tt)))))
+pub plain-table : (family : Family) → Plain (tableWord family)
+unfolding tableWord bytes
+plain-table One = (lit< tt, (lit< tt, (lit< tt, (lit< tt, (lit< tt, tt)))))
+plain-table Two = (lit< tt, (lit< tt, (lit< tt, (lit< tt, (lit< tt, (lit< tt, tt))))))
+
+other-word : same (tableWord Two) (tableWord One) ≡ false
+unfolding tableWord bytes same
+other-word = refl
 
 pub plain-dash : Plain (bytes "-")
 unfolding bytes
@@ -91,51 +103,61 @@ plain-kind (Block k) = plain-decimal k
 plain-kind Kronecker = (lit< tt, tt)
 
 pub design-said : (d : Design) (k : List ℕ) → d .n < 10 → d .m < 10 → Plain k → kindOf k ≡ kind.Is (d .kind)
-    → firstLine (bytes "table" ++ tabbed (decimal (d .n) ∷ decimal (d .m) ∷ k ∷ [])) ≡ first.Table d
-unfolding firstLine headed fields same bytes
+    → firstLine (tableWord (d .family) ++ tabbed (decimal (d .n) ∷ decimal (d .m) ∷ k ∷ [])) ≡ first.Table d
+unfolding firstLine fields
 design-said d k hn hm p e =
+    let fs : List (List ℕ) = decimal (d .n) ∷ decimal (d .m) ∷ k ∷ [] in
+    let plain : AllPlain fs = (plain-decimal (d .n), (plain-decimal (d .m), (p, tt))) in
     rw (
-      parts-fields (bytes "table") (decimal (d .n) ∷ decimal (d .m) ∷ k ∷ []) plain-table (plain-decimal (d .n), (plain-decimal (d .m), (p, tt))),
+      family-said tableWord plain-table other-word (d .family) fs plain,
+      parts-fields (tableWord (d .family)) fs (plain-table (d .family)) plain,
       oneDigit-decimal (d .n) hn,
       oneDigit-decimal (d .m) hm,
       e,
     )
+
+-- "`K` is for `table` only; with `table2` it is refusal 1", whatever digits stand for n and m
+pub kronecker-two : (n m : ℕ) → n < 10 → m < 10
+    → judgedFirst (firstLine (tableWord Two ++ tabbed (decimal n ∷ decimal m ∷ kindField Kronecker ∷ []))) ≡ answer.Refused 1 1
+unfolding judgedFirst designRefusal kindField
+kronecker-two n m hn hm =
+    rw (design-said (record { n = n; m = m; kind = Kronecker; family = Two }) (kindField Kronecker) hn hm (plain-kind Kronecker) kind-kronecker)
 
 -- ---- what is read is what is written
 
 -- the characters of a first line that gives the design d; `kind-field` are those for k
 pub record DesignRead (l : List ℕ) (d : Design) : Type 0 where
   pub kind-field : List ℕ
-  pub characters : l ≡ bytes "table" ++ tabbed (decimal (d .n) ∷ decimal (d .m) ∷ kind-field ∷ [])
+  pub characters : l ≡ tableWord (d .family) ++ tabbed (decimal (d .n) ∷ decimal (d .m) ∷ kind-field ∷ [])
   pub said : kindOf kind-field ≡ kind.Is (d .kind)
 
 wrong-table : {d : Design} → first.Wrong ≡ first.Table d → ⊥
 wrong-table e = let z : _≡_ {A = ℕ} 0 1 = cc in omega arith
 
-table-read : (x y : Number) (w : KindRead) (d : Design) → tableLine x y w ≡ first.Table d
-    → (x ≡ Is (d .n)) × (y ≡ Is (d .m)) × (w ≡ kind.Is (d .kind))
-table-read (Is a) (Is b) (kind.Is c) d e =
-    let same : record { n = a; m = b; kind = c } ≡ d = cc in
-    (ap (λ (y : Design). Is (y .n)) same, ap (λ (y : Design). Is (y .m)) same, ap (λ (y : Design). kind.Is (y .kind)) same)
-table-read (Is a) (Is b) kind.Wrong d e = absurd (wrong-table e)
-table-read (Is a) Wrong w d e = absurd (wrong-table e)
-table-read Wrong y w d e = absurd (wrong-table e)
+table-read : (family : Family) (x y : Number) (w : KindRead) (d : Design) → tableLine family x y w ≡ first.Table d
+    → (x ≡ Is (d .n)) × (y ≡ Is (d .m)) × (w ≡ kind.Is (d .kind)) × (family ≡ d .family)
+table-read family (Is a) (Is b) (kind.Is c) d e =
+    let same : record { n = a; m = b; kind = c; family = family } ≡ d = cc in
+    (ap (λ (y : Design). Is (y .n)) same, ap (λ (y : Design). Is (y .m)) same, ap (λ (y : Design). kind.Is (y .kind)) same, ap (λ (y : Design). y .family) same)
+table-read family (Is a) (Is b) kind.Wrong d e = absurd (wrong-table e)
+table-read family (Is a) Wrong w d e = absurd (wrong-table e)
+table-read family Wrong y w d e = absurd (wrong-table e)
 
 pub design-read : (l : List ℕ) (d : Design) → firstLine l ≡ first.Table d → DesignRead l d
 unfolding firstLine fields
-design-read l d e = go (headed 4 (bytes "table") l) refl e where
-  go : (t : Bool) → headed 4 (bytes "table") l ≡ t
-      → cond t (tableLine (oneDigit (field 1 l)) (oneDigit (field 2 l)) (kindOf (field 3 l))) first.Wrong ≡ first.Table d → DesignRead l d
-  go false h g = absurd (wrong-table g)
-  go true h g =
-      let shape = headed-read 3 (bytes "table") l h in
-      let said = table-read (oneDigit (field 1 l)) (oneDigit (field 2 l)) (kindOf (field 3 l)) d g in
+design-read l d e = go (familyOf 4 (tableWord One) (tableWord Two) l) refl e where
+  go : (x : FamilyRead) → familyOf 4 (tableWord One) (tableWord Two) l ≡ x
+      → familyThen x first.Wrong (λ y. tableLine y (oneDigit (field 1 l)) (oneDigit (field 2 l)) (kindOf (field 3 l))) ≡ first.Table d → DesignRead l d
+  go family.Wrong h g = absurd (wrong-table g)
+  go (family.Is y) h g =
+      let shape = family-read tableWord 3 l y h in
+      let said = table-read y (oneDigit (field 1 l)) (oneDigit (field 2 l)) (kindOf (field 3 l)) d g in
       let three = list-each (parts 9 l .others) 3 (shape .1) in
       record {
         kind-field = field 3 l;
         characters =
             shape .0
-            ∙ ap (λ (fs : List (List ℕ)). bytes "table" ++ tabbed fs)
+            ∙ ap₂ (λ (y : Family) (fs : List (List ℕ)). tableWord y ++ tabbed fs) (said .3)
             (three
             ∙ ap₂ (λ (f g : List ℕ). f ∷ g ∷ field 3 l ∷ [])
             (oneDigit-read (field 1 l) (d .n) (said .0))

@@ -17,7 +17,7 @@ use Rattle.table_texts.specs.declared.first.FirstLine.{FirstLine}
 use Rattle.table_texts.specs.declared.read.ReadAnswer.the-variants as answer
 use Rattle.table_texts.specs.declared.read.ReadAnswer.{ReadAnswer}
 use Rattle.table_texts.specs.declared.sizes.Design.{Design}
-use Rattle.table_texts.specs.First.{kindOf, firstLine}
+use Rattle.table_texts.specs.First.{kindOf, tableWord, firstLine}
 use Rattle.table_texts.specs.Design.{designRefusal}
 use Rattle.table_texts.specs.Accepted.{Accepted}
 use Rattle.table_texts.specs.Read.{given, withDesign, judgedFirst, opened, allLines, reading}
@@ -40,11 +40,11 @@ pub record TextRead (s : List ℕ) (d : Design) (t : List ℕ) : Type 0 where
   pub said : kindOf kind-field ≡ kind.Is (d .kind)
   pub characters : s ≡ textWith kind-field d t
 
-text-joined : (k : List ℕ) (d : Design) (t l s : List ℕ) → l ≡ bytes "table" ++ tabbed (decimal (d .n) ∷ decimal (d .m) ∷ k ∷ [])
+text-joined : (k : List ℕ) (d : Design) (t l s : List ℕ) → l ≡ tableWord (d .family) ++ tabbed (decimal (d .n) ∷ decimal (d .m) ∷ k ∷ [])
     → s ≡ pointLines (d .m) (at t) (2 ^ d .n) ++ line (bytes "end") [] → l ++ 10 ∷ s ≡ textWith k d t
 unfolding textWith designLine line
 text-joined k d t l s e h =
-    let word : List ℕ = bytes "table" ++ tabbed (decimal (d .n) ∷ decimal (d .m) ∷ k ∷ []) in
+    let word : List ℕ = tableWord (d .family) ++ tabbed (decimal (d .n) ∷ decimal (d .m) ∷ k ∷ []) in
     let points : List ℕ = pointLines (d .m) (at t) (2 ^ d .n) in
     let last : List ℕ = line (bytes "end") [] in
     ap₂ (λ (a b : List ℕ). a ++ 10 ∷ b) e h

@@ -1,6 +1,6 @@
--- An accepted text has at most 4,002 bytes (`accepted-text-length`), so that its first 8,192 bytes are the whole of it
--- (`accepted-text-first`): "every text that can be accepted is shorter". There are accepted texts of 4,002 bytes (`longest-accepted`,
--- `longest-length`).
+-- An accepted text has at most 4,003 bytes (`accepted-text-length`), so that its first 8,192 bytes are the whole of it
+-- (`accepted-text-first`): "every text that can be accepted is shorter". There are accepted texts of 4,003 bytes with `table2`, and of 4,002 with `table`
+-- (`longest-accepted`, `longest-length`).
 use mathlib.Core.Bool.{Bool, true, false}
 use mathlib.Core.List.{List}
 use mathlib.Core.Logic.{_⊎_, inl, inr}
@@ -15,13 +15,16 @@ use Rattle.numbers.specs.Bytes.{at}
 use Rattle.numbers.specs.Nonzero.{ifNonzero, overNonzero}
 use Rattle.numbers.specs.Sums.{foldBelow, sumBelow}
 use Rattle.numbers.proofs.Nonzero.{nonzero-some, overNonzero-zero}
+use Rattle.expansions.specs.declared.families.Family.{Family}
+use Rattle.expansions.specs.declared.families.Family.the-variants.{One, Two}
 use Rattle.expansions.specs.declared.kinds.Kind.{Kind}
 use Rattle.expansions.specs.declared.kinds.Kind.the-variants.{Block, Kronecker}
 use Rattle.table_texts.specs.declared.sizes.Design.{Design}
-use Rattle.table_texts.specs.Design.{KindSized}
+use Rattle.table_texts.specs.Design.{KindSized, KindFor}
 use Rattle.table_texts.specs.Accepted.{Accepted}
 use Rattle.listings.specs.Parts.{bytes}
 use Rattle.listings.specs.Listing.{tabbed, line, digitCount}
+use Rattle.table_texts.specs.First.{tableWord}
 use Rattle.table_texts.specs.Read.{given, reading}
 use Rattle.table_texts.proofs.read.Accepted.{reading-accepted}
 use Rattle.listings.proofs.Characters.{length-decimal, length-outputs}
@@ -61,8 +64,8 @@ digits-total = refl
 
 -- ---- the text
 
-length-designLine : (d : Design) (k : List ℕ) → d .n < 10 → d .m < 10 → length k ≡ 1 → length (designLine d k) ≡ 12
-unfolding designLine line tabbed bytes
+length-designLine : (d : Design) (k : List ℕ) → d .n < 10 → d .m < 10 → length k ≡ 1 → length (designLine d k) ≡ length (tableWord (d .family)) + 7
+unfolding designLine line tabbed
 length-designLine d k hn hm h =
     simp (length-append, length-decimal) (omega (arith, digitCount-one (d .n) hn, digitCount-one (d .m) hm))
 
@@ -71,12 +74,12 @@ length-textWith : (k : List ℕ) (d : Design) (t : List ℕ)
 unfolding textWith line tabbed bytes
 length-textWith k d t = simp length-append (omega arith)
 
-text-length : (k : List ℕ) (d : Design) (t : List ℕ) → Accepted d t → length k ≡ 1 → length (textWith k d t) ≤ 4002
+text-length : (k : List ℕ) (d : Design) (t : List ℕ) → Accepted d t → length k ≡ 1 → length (textWith k d t) ≤ 3997 + length (tableWord (d .family))
 text-length k d t g h =
     let same : pointLines (d .m) (at t) 256 ≡ pointLines (d .m) (at t) (2 ^ d .n) =
     overNonzero-zero (λ p. pointLine (d .m) p (at t p)) (at t) (2 ^ d .n) 256 (g .table .rest) (points-le (d .n) (g .sized .inputs .1)) in
     let points : length (pointLines (d .m) (at t) (2 ^ d .n)) ≤ 256 * (5 + d .m) + sumBelow 256 digitCount = rw same at (pointLines-le (d .m) (at t) 256) in
-    let first : length (designLine d k) ≡ 12 = length-designLine d k (omega (arith, g .sized .inputs)) (omega (arith, g .sized .outputs)) h in
+    let first : length (designLine d k) ≡ length (tableWord (d .family)) + 7 = length-designLine d k (omega (arith, g .sized .inputs)) (omega (arith, g .sized .outputs)) h in
     omega (arith, length-textWith k d t, g .sized .outputs, digits-total)
 
 length-dash : length (bytes "-") ≡ 1
@@ -89,12 +92,19 @@ unfolding kindField bytes
 length-kind n (Block k) h = length-decimal k ∙ digitCount-one k (omega (arith, h .0))
 length-kind n Kronecker h = refl
 
-pub accepted-text-length : (s : List ℕ) (d : Design) (t : List ℕ) → reading s ≡ given d t → length s ≤ 4002
+-- `table2` is the longer of the two words
+length-tableWord : (family : Family) → length (tableWord family) ≤ 6
+unfolding tableWord bytes
+length-tableWord One = omega arith
+length-tableWord Two = omega arith
+
+pub accepted-text-length : (s : List ℕ) (d : Design) (t : List ℕ) → reading s ≡ given d t → length s ≤ 4003
 unfolding tableText dashText
 accepted-text-length s d t e = go (reading-accepted s d t e) (accepted-text s d t e) where
-  go : Accepted d t → (s ≡ tableText d t) ⊎ ((d .kind ≡ Block 1) × (s ≡ dashText d t)) → length s ≤ 4002
-  go g (inl h) = rw h (text-length (kindField (d .kind)) d t g (length-kind (d .n) (d .kind) (g .sized .mixed)))
-  go g (inr h) = rw (h .1) (text-length (bytes "-") d t g length-dash)
+  go : Accepted d t → (s ≡ tableText d t) ⊎ ((d .kind ≡ Block 1) × (s ≡ dashText d t)) → length s ≤ 4003
+  go g (inl h) =
+      rw h (omega (arith, text-length (kindField (d .kind)) d t g (length-kind (d .n) (d .kind) (g .sized .mixed)), length-tableWord (d .family)))
+  go g (inr h) = rw (h .1) (omega (arith, text-length (bytes "-") d t g length-dash, length-tableWord (d .family)))
 
 -- "the first 8,192 bytes of standard input as the whole text"
 pub accepted-text-first : (s : List ℕ) (d : Design) (t : List ℕ) → reading s ≡ given d t → take 8192 s ≡ s
@@ -111,8 +121,8 @@ pointLines-full m f (suc N) some =
     ∙ rw (last, length-pointLine m N (f N), pointLines-full m f N (λ p h. some p (omega arith))) (omega arith)
 
 -- eight inputs, eight outputs, and every output 1 at every point
-abbrev pub fullDesign : Kind → Design
-fullDesign x = record { n = 8; m = 8; kind = x }
+abbrev pub fullDesign : Family → Kind → Design
+fullDesign family x = record { n = 8; m = 8; kind = x; family = family }
 
 abbrev pub fullTable : List ℕ
 fullTable = replicate 256 255
@@ -129,22 +139,23 @@ full-small p = go (ltb p 256) refl where
   go true e = rw (full-point p (ltb-true p 256 e)) (lit< tt)
   go false e = rw (full-rest p (ltb-false p 256 e)) (lit< tt)
 
-full-accepted : (x : Kind) → KindSized 8 x → Accepted (fullDesign x) fullTable
-full-accepted x h =
+full-accepted : (family : Family) (x : Kind) → KindSized 8 x → KindFor family x → Accepted (fullDesign family x) fullTable
+full-accepted family x h g =
     record {
-      sized = record { inputs = (lit≤ tt, lit≤ tt); outputs = (lit≤ tt, lit≤ tt); mixed = h };
+      sized = record { inputs = (lit≤ tt, lit≤ tt); outputs = (lit≤ tt, lit≤ tt); mixed = h; family = g };
       table = record { long = length-replicate {A = ℕ} 256 255; small = full-small; rest = full-rest };
     }
 
-pub longest-accepted : (x : Kind) → KindSized 8 x → reading (tableText (fullDesign x) fullTable) ≡ given (fullDesign x) fullTable
-longest-accepted x h = table-text-accepted (fullDesign x) fullTable (full-accepted x h)
+pub longest-accepted : (family : Family) (x : Kind) → KindSized 8 x → KindFor family x
+    → reading (tableText (fullDesign family x) fullTable) ≡ given (fullDesign family x) fullTable
+longest-accepted family x h g = table-text-accepted (fullDesign family x) fullTable (full-accepted family x h g)
 
--- the bound is met
-pub longest-length : (x : Kind) → KindSized 8 x → length (tableText (fullDesign x) fullTable) ≡ 4002
+-- the bound is met, with the word of each family
+pub longest-length : (family : Family) (x : Kind) → KindSized 8 x → length (tableText (fullDesign family x) fullTable) ≡ 3997 + length (tableWord family)
 unfolding tableText
-longest-length x h =
+longest-length family x h =
     let points : length (pointLines 8 (at fullTable) 256) ≡ 256 * (5 + 8) + sumBelow 256 digitCount =
     pointLines-full 8 (at fullTable) 256 (λ p l e. omega (arith, full-point p l)) in
-    let first : length (designLine (fullDesign x) (kindField x)) ≡ 12 =
-    length-designLine (fullDesign x) (kindField x) (lit< tt) (lit< tt) (length-kind 8 x h) in
-    omega (arith, length-textWith (kindField x) (fullDesign x) fullTable, digits-total)
+    let first : length (designLine (fullDesign family x) (kindField x)) ≡ length (tableWord family) + 7 =
+    length-designLine (fullDesign family x) (kindField x) (lit< tt) (lit< tt) (length-kind 8 x h) in
+    omega (arith, length-textWith (kindField x) (fullDesign family x) fullTable, digits-total)

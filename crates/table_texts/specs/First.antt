@@ -1,12 +1,14 @@
--- What the first line of a table text says, by its fields. Document 01, "Text in, listing out", and document 02, W-202.
+-- What the first line of a table text says, by its fields. Document 01, "Text in, listing out", and document 02, W-202 and W-203.
 use mathlib.Core.Bool.{cond}
 use mathlib.Core.List.{List}
 use Prim.Native.Nat.{ℕ}
+use Rattle.expansions.specs.declared.families.Family.{Family}
+use Rattle.expansions.specs.declared.families.Family.the-variants.{One, Two}
 use Rattle.expansions.specs.declared.kinds.Kind.{Kind}
 use Rattle.expansions.specs.declared.kinds.Kind.the-variants.{Block, Kronecker}
 use Rattle.listings.specs.Parts.{bytes, same, field}
 use Rattle.lines.specs.declared.values.Number.{Number}
-use Rattle.lines.specs.Fields.{andThen, oneDigit, headed}
+use Rattle.lines.specs.Fields.{andThen, oneDigit, familyOf, familyThen}
 use Rattle.table_texts.specs.declared.first.KindRead.{KindRead}
 use Rattle.table_texts.specs.declared.first.KindRead.the-variants as kind
 use Rattle.table_texts.specs.declared.first.FirstLine.{FirstLine}
@@ -25,12 +27,18 @@ abbrev pub kindThen : KindRead → (Kind → FirstLine) → FirstLine
 kindThen (kind.Is x) next = next x
 kindThen kind.Wrong next = first.Wrong
 
--- n, m and the kind of k, where each field says one
-abbrev pub tableLine : Number → Number → KindRead → FirstLine
-tableLine n m k =
-    andThen n first.Wrong (λ n. andThen m first.Wrong (λ m. kindThen k (λ x. first.Table (record { n = n; m = m; kind = x }))))
+-- n, m and the kind of k, where each field says one, with the family
+abbrev pub tableLine : Family → Number → Number → KindRead → FirstLine
+tableLine family n m k =
+    andThen n first.Wrong (λ n. andThen m first.Wrong (λ m. kindThen k (λ x. first.Table (record { n = n; m = m; kind = x; family = family }))))
 
--- "`table`, n, m, k. Each is one digit; k may be `-`, which means 1."
+-- the word that a table text begins with: "`table`", and document 02, W-203: "A table that begins `table2`" is for a part of family two
+unfoldable pub tableWord : Family → List ℕ
+tableWord One = bytes "table"
+tableWord Two = bytes "table2"
+
+-- "`table`, n, m, k. Each is one digit; k may be `-`, which means 1.", with the word of either family
 unfoldable pub firstLine : List ℕ → FirstLine
 firstLine l =
-    cond (headed 4 (bytes "table") l) (tableLine (oneDigit (field 1 l)) (oneDigit (field 2 l)) (kindOf (field 3 l))) first.Wrong
+    familyThen (familyOf 4 (tableWord One) (tableWord Two) l) first.Wrong
+    (λ family. tableLine family (oneDigit (field 1 l)) (oneDigit (field 2 l)) (kindOf (field 3 l)))

@@ -17,7 +17,7 @@ use Rattle.table_texts.specs.declared.read.ReadAnswer.the-variants as an
 use Rattle.table_texts.specs.Design.{designRefusal}
 use Rattle.table_texts.specs.First.{firstLine}
 
--- "returns n, m, k", of k "the kind of k", and "fills a lent table of 256 bytes"; "A refusal returns its number and the line"
+-- "returns n, m, k", of k "the kind of k", and "the family too", and "fills a lent table of 256 bytes"; "A refusal returns its number and the line"
 pub data Reading : Type 0 where
   given : (design : Design) (table : List ℕ) → Reading
   refused : (number line : ℕ) → Reading
@@ -70,7 +70,8 @@ unfoldable pub tableAfter : Reading → List ℕ → List ℕ
 tableAfter (given design table) before = table
 tableAfter (refused number line) before = before
 
--- "The reading call fills a lent table of 256 bytes, zero from 2^n on, and returns n, m, k."; document 02: it "returns the kind of k"
+-- "The reading call fills a lent table of 256 bytes, zero from 2^n on, and returns n, m, k."; document 02: it "returns the kind of k" and "returns the
+-- family too"
 pub record ReadTable (text before : List ℕ) (r : ReadAnswer) (after : List ℕ) : Type 0 where
   pub result : standsFor r after ≡ lent (reading text) (length before)
   pub table : after ≡ tableAfter (lent (reading text) (length before)) before

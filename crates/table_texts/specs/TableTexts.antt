@@ -1,5 +1,6 @@
 -- The text that is written for a design and its table. Document 01, "Text in, listing out": "A table text is: `table`, n, m, k ..;
--- lines `on`, point, outputs ..; `end`." Its lines, its numbers in base ten and its outputs are those of a listing.
+-- lines `on`, point, outputs ..; `end`."; document 02, W-203: or `table2`. Its lines, its numbers in base ten and its outputs are those of a
+-- listing.
 use mathlib.Core.List.{List, [], _∷_, _++_}
 use Prim.Native.Nat.{ℕ, _^_}
 use Rattle.numbers.specs.Bytes.{at}
@@ -9,6 +10,7 @@ use Rattle.expansions.specs.declared.kinds.Kind.the-variants.{Block, Kronecker}
 use Rattle.table_texts.specs.declared.sizes.Design.{Design}
 use Rattle.listings.specs.Parts.{bytes}
 use Rattle.listings.specs.Listing.{line, decimal, outputBytes}
+use Rattle.table_texts.specs.First.{tableWord}
 
 -- "`on`, point, outputs": the point p with the outputs o, of m outputs
 unfoldable pub pointLine : ℕ → ℕ → ℕ → List ℕ
@@ -24,9 +26,9 @@ unfoldable pub kindField : Kind → List ℕ
 kindField (Block k) = decimal k
 kindField Kronecker = bytes "K"
 
--- "`table`, n, m, k": the first line with the given characters for k
+-- "`table`, n, m, k": the first line with the family's word and the given characters for k
 unfoldable pub designLine : Design → List ℕ → List ℕ
-designLine d k = line (bytes "table") (decimal (d .n) ∷ decimal (d .m) ∷ k ∷ [])
+designLine d k = line (tableWord (d .family)) (decimal (d .n) ∷ decimal (d .m) ∷ k ∷ [])
 
 -- the whole text for the design d and the table t, with the given characters for k
 unfoldable pub textWith : List ℕ → Design → List ℕ → List ℕ

@@ -1,9 +1,11 @@
 // What the first line of a table text says, by its fields. Whether the design is within its limits is judged later, since a line that breaks
 // the grammar is refused first.
 use crate::sizes::Design;
+use expansions::families::Family;
 use expansions::kinds::Kind;
+use lines::fields::FamilyRead;
+use lines::fields::family_of;
 use lines::fields::field;
-use lines::fields::headed;
 use lines::fields::same;
 use lines::values::Number;
 use lines::values::one_digit;
@@ -38,9 +40,9 @@ fn kind_of(field: &[u8]) -> KindRead
     }
 }
 
-// n, m and the kind of k, where each is read.
-fn table_line(n: Number, m: Number, kind: KindRead) -> FirstLine
-    ensures { λ r. ⌜ r ≡ tableLine n m kind ⌝ }
+// n, m and the kind of k, where each is read, with the family.
+fn table_line(family: Family, n: Number, m: Number, kind: KindRead) -> FirstLine
+    ensures { λ r. ⌜ r ≡ tableLine family n m kind ⌝ }
 {
     let Number::Is(n) = n else {
         return FirstLine::Wrong;
@@ -51,17 +53,18 @@ fn table_line(n: Number, m: Number, kind: KindRead) -> FirstLine
     let KindRead::Is(kind) = kind else {
         return FirstLine::Wrong;
     };
-    FirstLine::Table(Design { n, m, kind })
+    FirstLine::Table(Design { n, m, kind, family })
 }
 
-// The first line: `table`, n, m, k.
+// The first line: `table` for family one or `table2` for family two, n, m, k.
 pub fn first_line(line: &[u8]) -> FirstLine
     ensures { λ r. ⌜ r ≡ firstLine (now (line .entry)) ⌝ }
 {
-    if !headed(4, b"table", line) {
+    let FamilyRead::Is(family) = family_of(4, b"table", b"table2", line) else {
         return FirstLine::Wrong;
-    }
+    };
     table_line(
+        family,
         one_digit(field(line, 1)),
         one_digit(field(line, 2)),
         kind_of(field(line, 3)),

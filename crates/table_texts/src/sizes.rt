@@ -1,4 +1,5 @@
 // The sizes of a design: what the first line of a table text says, and the refusal of it.
+use expansions::families::Family;
 use expansions::kinds::Kind;
 use numbers::refusals::MOST_INPUTS;
 use numbers::refusals::judge_sizes;
@@ -6,11 +7,12 @@ use numbers::refusals::judge_table;
 ghost use mathlib.Core.Path.{_≡_};
 ghost use Rattle.table_texts.specs.Design.{designRefusal};
 
-// The inputs n, the outputs m and the mixed inputs k.
+// The inputs n, the outputs m and the mixed inputs k, for a part of the family.
 pub struct Sizes {
     pub n: usize,
     pub m: usize,
     pub k: usize,
+    pub family: Family,
 }
 
 impl Sizes {
@@ -18,20 +20,26 @@ impl Sizes {
     pub const TABLE: usize = 1 << MOST_INPUTS;
 }
 
-// What the first line of a table text says: the inputs n, the outputs m and the kind of k.
+// What the first line of a table text says: the inputs n, the outputs m, the kind of k and the family.
 pub struct Design {
     pub n: usize,
     pub m: usize,
     pub kind: Kind,
+    pub family: Family,
 }
 
-// The refusal of a design: that of its table, then 4 where k is a number above 3 or above n; and 0 where there is none.
+// The refusal of a design: 1 where family two is asked for `K`, then that of its table, then 4 where k is a number above 3 or above n; and 0 where there
+// is none.
 pub fn judge_design(design: Design) -> usize
     ensures { λ r. ⌜ r ≡ designRefusal design ⌝ }
 {
     let kind = design.kind;
+    let family = design.family;
     match kind {
         Kind::Block(k) => judge_sizes(design.n, design.m, k),
-        Kind::Kronecker => judge_table(design.n, design.m),
+        Kind::Kronecker => match family {
+            Family::One => judge_table(design.n, design.m),
+            Family::Two => 1,
+        },
     }
 }

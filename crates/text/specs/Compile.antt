@@ -11,6 +11,7 @@ use Rattle.search.specs.Expansion.{answerExpansion}
 use Rattle.kronecker.specs.Expansion.{answerKronecker}
 use Rattle.text.specs.declared.compile.Compiled.{Compiled}
 use Rattle.text.specs.declared.compile.Compiled.the-variants.{Written, Refused}
+use Rattle.expansions.specs.declared.families.Family.{Family}
 use Rattle.expansions.specs.declared.kinds.Kind.{Kind}
 use Rattle.expansions.specs.declared.kinds.Kind.the-variants.{Block, Kronecker}
 use Rattle.table_texts.specs.declared.sizes.Design.{Design}
@@ -19,14 +20,14 @@ use Rattle.listings.specs.Listing.{listing}
 use Rattle.listings.specs.Meaning.{IsListing}
 use Rattle.listing_writing.specs.Write.{recordListing}
 
--- the listing of the answer for a table, by the kind of k: of document 01's class, or of document 02's Kronecker expansions
-abbrev pub kindListing : ℕ → ℕ → Kind → List ℕ → List ℕ
-kindListing n m (Block k) table = listing n m k (answerExpansion n k (at table))
-kindListing n m Kronecker table = recordListing n m (answerKronecker n (at table))
+-- the listing of the answer for a table, by the kind of k: of document 01's class, for a part of the family, or of document 02's Kronecker expansions
+abbrev pub kindListing : Family → ℕ → ℕ → Kind → List ℕ → List ℕ
+kindListing family n m (Block k) table = listing family n m k (answerExpansion n k (at table))
+kindListing family n m Kronecker table = recordListing n m (answerKronecker n (at table))
 
 -- the listing of the answer for a table of the design d
 unfoldable pub answerListing : Design → List ℕ → List ℕ
-answerListing d table = kindListing (d .n) (d .m) (d .kind) table
+answerListing d table = kindListing (d .family) (d .n) (d .m) (d .kind) table
 
 -- "The text call reads, minimises and writes into a lent output buffer and returns the length"; "10. The output buffer is shorter than the
 -- listing", with line 0. `room` is the buffer's length.

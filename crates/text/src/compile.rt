@@ -33,9 +33,10 @@ fn write_block(sizes: Sizes, table: &[u8], output: &mut [u8]) -> Listed
     let n = sizes.n;
     let m = sizes.m;
     let k = sizes.k;
+    let family = sizes.family;
     let size: usize = 1 << n;
     let answer = find_answer(n, m, k, &table[..size]);
-    write_listing(n, m, k, answer, output)
+    write_listing(family, n, m, k, answer, output)
 }
 
 // Finds the cheapest Kronecker expansion, and writes its listing.
@@ -56,8 +57,9 @@ fn write_answer(design: Design, table: &[u8], output: &mut [u8]) -> Listed
     let n = design.n;
     let m = design.m;
     let kind = design.kind;
+    let family = design.family;
     match kind {
-        Kind::Block(k) => write_block(Sizes { n, m, k }, table, output),
+        Kind::Block(k) => write_block(Sizes { n, m, k, family }, table, output),
         Kind::Kronecker => write_kind(n, m, table, output),
     }
 }

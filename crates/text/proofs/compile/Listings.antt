@@ -33,11 +33,11 @@ use Rattle.listings.proofs.Kronecker.{kronecker-listed}
 pub answer-listing : (d : Design) (table : List ℕ) → Accepted d table → IsListing (d .n) (d .kind) (at table) (answerListing d table)
 unfolding answerListing
 answer-listing d table a = go (d .kind) (a .sized .mixed) where
-  go : (x : Kind) → KindSized (d .n) x → IsListing (d .n) x (at table) (kindListing (d .n) (d .m) x table)
+  go : (x : Kind) → KindSized (d .n) x → IsListing (d .n) x (at table) (kindListing (d .family) (d .n) (d .m) x table)
   go (Block k) s =
       let minimal = answerExpansion-is (d .n) k (at table) (a .sized .inputs .1) (s .1) in
       let small = expansion-coefficients-lt (d .n) k (at table) (a .sized .inputs .1) (d .m) (s .1) (λ p h. a .table .small p) in
-      answer-listed (d .n) (d .m) k (answerExpansion (d .n) k (at table)) (at table) (a .sized .inputs .1) (a .sized .outputs .1) (s .0) minimal
+      answer-listed (d .family) (d .n) (d .m) k (answerExpansion (d .n) k (at table)) (at table) (a .sized .inputs .1) (a .sized .outputs .1) (s .0) minimal
       (λ t l. small t)
   go Kronecker s =
       let minimal = answerKronecker-is (d .n) (at table) (a .sized .inputs .1) in

@@ -15,6 +15,7 @@ use Rattle.numbers.specs.Refusals.{TableSized, Sized}
 use Rattle.numbers.proofs.Shifts.{one-shifted}
 use Rattle.numbers.proofs.Tests.{same-test}
 use Rattle.numbers.proofs.refusals.Outputs.{below-from}
+use Rattle.expansions.specs.declared.families.Family.{Family}
 use Rattle.search.specs.Expansion.{answerExpansion, searched}
 use Rattle.search.proofs.expansion.Answer.{answerExpansion-is, answerExpansion-ext}
 use Rattle.search.proofs.answer.Searchable.{searched-answer}
@@ -71,9 +72,9 @@ module _ (n m : ℕ) (table : List ℕ) (s : TableSized n m) (t : Table n m tabl
   unfolding part
   searched-kind = searched-kronecker n m part s part-long (same-test (allBelow (2 ^ m) part) true (λ t. tt) (λ t. part-clean)) ∙ answerKronecker-ext n (at part) (at table) part-at
 
-  pub block-listable : (k : ℕ) → Sized n m k → Listable n m (answerExpansion n k (at table))
-  block-listable k z =
-      answer-listable n m k _ (at table) (s .inputs .1) (s .outputs .1) (z .mixed .0) (answerExpansion-is n k (at table) (s .inputs .1) (z .mixed .1))
+  pub block-listable : (family : Family) (k : ℕ) → Sized n m k → Listable n m (answerExpansion n k (at table))
+  block-listable family k z =
+      answer-listable family n m k _ (at table) (s .inputs .1) (s .outputs .1) (z .mixed .0) (answerExpansion-is n k (at table) (s .inputs .1) (z .mixed .1))
 
   pub kind-listable : KroneckerListable n m (answerKronecker n (at table))
   kind-listable =

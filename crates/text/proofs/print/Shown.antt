@@ -26,6 +26,7 @@ use Rattle.listings.specs.Meaning.{firstNumbers, IsListing}
 use Rattle.text.specs.Compile.{kindListing, answerListing, compiled, bufferAfter, Compile}
 use Rattle.text.specs.Print.{judged, refusedLine, printedFor, printed, Print}
 use Rattle.table_texts.proofs.read.Accepted.{reading-accepted}
+use Rattle.listings.proofs.Lengths.{length-formWord}
 use Rattle.listings.proofs.Longest.{listing-longest}
 use Rattle.listings.proofs.Kronecker.{kronecker-longest}
 use Rattle.kronecker.proofs.expansion.Answer.{answerKronecker-is}
@@ -39,11 +40,11 @@ use Rattle.text.proofs.print.Refusals.{refusal-said, refused-line-le}
 listing-within : (d : Design) (table : List ℕ) → Accepted d table → length (answerListing d table) ≤ 5919
 unfolding answerListing
 listing-within d table a = go (d .kind) (a .sized .mixed) where
-  go : (x : Kind) → KindSized (d .n) x → length (kindListing (d .n) (d .m) x table) ≤ 5919
+  go : (x : Kind) → KindSized (d .n) x → length (kindListing (d .family) (d .n) (d .m) x table) ≤ 5919
   go (Block k) s =
-      let most = listing-longest (d .n) (d .m) k (answerExpansion (d .n) k (at table)) (at table) (a .sized .inputs .1) (a .sized .outputs .1) (s .0)
+      let most = listing-longest (d .family) (d .n) (d .m) k (answerExpansion (d .n) k (at table)) (at table) (a .sized .inputs .1) (a .sized .outputs .1) (s .0)
       (answerExpansion-is (d .n) k (at table) (a .sized .inputs .1) (s .1)) (s .1) in
-      omega (arith, most)
+      omega (arith, most, length-formWord (d .family))
   go Kronecker s =
       kronecker-longest (d .n) (d .m) _ _ _ _ (a .sized .inputs .1) (a .sized .outputs .1)
       (answerKronecker-is (d .n) (at table) (a .sized .inputs .1) .products-counted)

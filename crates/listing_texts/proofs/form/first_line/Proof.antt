@@ -1,21 +1,30 @@
 -- `first_line` meets its contract, by those of its parts.
 use mathlib.Core.Path.{_∙_}
-use borrow.Author.Tests.{not-true, not-false}
 use Rattle.listings.specs.Parts.{bytes}
+use Rattle.listings.specs.Listing.{formWord}
 use Rattle.listing_texts.specs.Form.{firstLine}
 use borrow.Author.Needs.{needs}
 use Rattle.listing_texts.proofs.form.first_line.Statement.{statement}
 use Rattle.listing_texts.proofs.form.first_line.Tie as tie
 
-slice-aggregate-headed : tie.Need-slice-aggregate-headed
-slice-aggregate-headed c = search needs
+slice-aggregate-family-of : tie.Need-slice-aggregate-family-of
+slice-aggregate-family-of c = search needs
 
-headed-requires : tie.Need-headed-requires
-headed-requires c κs = search needs
+slice-aggregate-family-of-2 : tie.Need-slice-aggregate-family-of-2
+slice-aggregate-family-of-2 c = search needs
+
+family-of-requires : tie.Need-family-of-requires
+family-of-requires c κs = search needs
+
+enum-known-family : tie.Need-enum-known-family
+enum-known-family c = search needs
+
+enum-told : tie.Need-enum-told
+enum-told c = search needs
 
 returns : tie.Need-returns
-unfolding firstLine bytes
-returns c = rw (← c .before .headed .ensures, not-true (c .before .headed .result) (c .if1 .taken))
+unfolding firstLine formWord bytes
+returns c = rw (← c .before .before .family-of .ensures, c .enum-told .given .1)
 
 field-requires : tie.Need-field-requires
 field-requires c κs = search needs
@@ -63,13 +72,13 @@ form-of-requires : tie.Need-form-of-requires
 form-of-requires c κs = search needs
 
 returns-2 : tie.Need-returns-2
-unfolding firstLine bytes
+unfolding firstLine formWord bytes
 returns-2 c =
-    let h = c .before .before .before .before .before .before .before .before .before .before .before .before .before .before .before in
+    let h = c .before .before .before .before .before .before .before .before .before .before .before .before .before .before .before .before in
     c .form-of .ensures
     ∙ rw (
-      ← h .before .headed .ensures,
-      not-false (h .before .headed .result) (h .if1 .left),
+      ← h .before .before .family-of .ensures,
+      h .family .given .1,
       ← c .before .before .before .before .before .before .before .before .before .before .before .before .before .before .field .ensures,
       ← c .before .before .before .before .before .before .before .before .before .before .before .before .before .read-number .ensures,
       ← c .before .before .before .before .before .before .before .before .before .before .before .before .field2 .ensures,
@@ -90,8 +99,11 @@ pub first-line-spec : {M : Type 1} → statement M
 first-line-spec =
     tie.close
     (tie.spec
-    slice-aggregate-headed
-    headed-requires
+    slice-aggregate-family-of
+    slice-aggregate-family-of-2
+    family-of-requires
+    enum-known-family
+    enum-told
     returns
     field-requires
     read-number-requires

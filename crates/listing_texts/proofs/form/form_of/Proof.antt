@@ -10,7 +10,7 @@ enum-told : tie.Need-enum-told
 enum-told c = search needs
 
 returns : tie.Need-returns
-returns c = search needs
+returns c = rw (c .enum-told .given .1)
 
 enum-known-m : tie.Need-enum-known-m
 enum-known-m c = search needs
@@ -19,7 +19,7 @@ enum-told-2 : tie.Need-enum-told-2
 enum-told-2 c = search needs
 
 returns-2 : tie.Need-returns-2
-returns-2 c = search needs
+returns-2 c = rw (c .before .before .before .n .given .1, c .enum-told2 .given .1)
 
 enum-known-k : tie.Need-enum-known-k
 enum-known-k c = search needs

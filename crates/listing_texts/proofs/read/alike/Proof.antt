@@ -1,4 +1,5 @@
 -- `alike` meets its contract: each early return is one test of `alike`.
+use mathlib.Core.Path.{_∙_}
 use borrow.Author.Tests.{eq-eqb, ne-eqb}
 use Rattle.listing_texts.specs.Read.{alike}
 use borrow.Author.Needs.{needs}
@@ -30,14 +31,33 @@ returns-3 c =
 returns-4 : tie.Need-returns-4
 unfolding alike
 returns-4 c =
-    let l = c .before .before in
+    let l = c .before .before .before in
     let s = l .before .before .before in
     rw (
       ← s .before .before .before .before .judge-sizes .ensures,
       eq-eqb _ _ (s .before .before .before .if1 .left),
       eq-eqb _ _ (s .if2 .left),
       eq-eqb _ _ (l .if3 .left),
+      ne-eqb _ _ (c .if4 .taken),
+    )
+
+same-family-requires : tie.Need-same-family-requires
+same-family-requires c κs = search needs
+
+returns-5 : tie.Need-returns-5
+unfolding alike
+returns-5 c =
+    let k = c .before in
+    let l = k .before .before .before in
+    let s = l .before .before .before in
+    c .same-family .ensures
+    ∙ rw (
+      ← s .before .before .before .before .judge-sizes .ensures,
+      eq-eqb _ _ (s .before .before .before .if1 .left),
+      eq-eqb _ _ (s .if2 .left),
+      eq-eqb _ _ (l .if3 .left),
+      eq-eqb _ _ (k .if4 .left),
     )
 
 pub alike-spec : {M : Type 1} → statement M
-alike-spec = tie.close (tie.spec judge-sizes-requires returns returns-2 returns-3 returns-4)
+alike-spec = tie.close (tie.spec judge-sizes-requires returns returns-2 returns-3 returns-4 same-family-requires returns-5)

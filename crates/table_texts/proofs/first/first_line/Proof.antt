@@ -1,21 +1,29 @@
 -- `first_line` meets its contract, by those of its parts.
 use mathlib.Core.Path.{_∙_}
 use borrow.Author.Needs.{needs}
-use borrow.Author.Tests.{not-true, not-false}
 use Rattle.listings.specs.Parts.{bytes}
-use Rattle.table_texts.specs.First.{firstLine}
+use Rattle.table_texts.specs.First.{tableWord, firstLine}
 use Rattle.table_texts.proofs.first.first_line.Statement.{statement}
 use Rattle.table_texts.proofs.first.first_line.Tie as tie
 
-slice-aggregate-headed : tie.Need-slice-aggregate-headed
-slice-aggregate-headed c = search needs
+slice-aggregate-family-of : tie.Need-slice-aggregate-family-of
+slice-aggregate-family-of c = search needs
 
-headed-requires : tie.Need-headed-requires
-headed-requires c κs = search needs
+slice-aggregate-family-of-2 : tie.Need-slice-aggregate-family-of-2
+slice-aggregate-family-of-2 c = search needs
+
+family-of-requires : tie.Need-family-of-requires
+family-of-requires c κs = search needs
+
+enum-known-family : tie.Need-enum-known-family
+enum-known-family c = search needs
+
+enum-told : tie.Need-enum-told
+enum-told c = search needs
 
 returns : tie.Need-returns
-unfolding firstLine bytes
-returns c = rw (← c .before .headed .ensures, not-true (c .before .headed .result) (c .if1 .taken))
+unfolding firstLine tableWord bytes
+returns c = rw (← c .before .before .family-of .ensures, c .enum-told .given .1)
 
 field-requires : tie.Need-field-requires
 field-requires c κs = search needs
@@ -39,26 +47,33 @@ table-line-requires : tie.Need-table-line-requires
 table-line-requires c κs = search needs
 
 returns-2 : tie.Need-returns-2
-unfolding firstLine bytes
+unfolding firstLine tableWord bytes
 returns-2 c =
+    let kind = c .before in
+    let m = kind .before .before in
+    let n = m .before .before in
+    let told = n .before .before .before in
     c .table-line .ensures
     ∙ rw (
-      ← c .before .before .before .before .before .before .before .before .headed .ensures,
-      not-false (c .before .before .before .before .before .before .before .before .headed .result) (c .before .before .before .before .before .before .before .if1 .left),
-      ← c .before .before .before .before .before .before .field .ensures,
-      ← c .before .before .before .before .before .one-digit .ensures,
-      ← c .before .before .before .before .field2 .ensures,
-      ← c .before .before .before .one-digit2 .ensures,
-      ← c .before .before .field3 .ensures,
-      ← c .before .kind-of .ensures,
+      ← told .before .before .family-of .ensures,
+      told .family .given .1,
+      ← n .before .field .ensures,
+      ← n .one-digit .ensures,
+      ← m .before .field2 .ensures,
+      ← m .one-digit2 .ensures,
+      ← kind .before .field3 .ensures,
+      ← kind .kind-of .ensures,
     )
 
 pub first-line-spec : {M : Type 1} → statement M
 first-line-spec =
     tie.close
     (tie.spec
-    slice-aggregate-headed
-    headed-requires
+    slice-aggregate-family-of
+    slice-aggregate-family-of-2
+    family-of-requires
+    enum-known-family
+    enum-told
     returns
     field-requires
     one-digit-requires

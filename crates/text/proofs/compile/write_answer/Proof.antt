@@ -23,7 +23,7 @@ enum-told c = search needs
 write-kind-requires : tie.Need-write-kind-requires
 write-kind-requires c κs =
     let s = c .before .before .before .before .before in
-    subst (λ (d : Design). Accepted d (s .args .table .now)) (kronecker-design _ (c .before .enum-told .given .1)) (s .pre)
+    subst (λ (d : Design). Accepted d (s .args .table .now)) (kronecker-design _ (c .before .enum-told .given .1) (s .pre .sized)) (s .pre)
 
 same-length : tie.Need-same-length
 same-length c = search needs
@@ -38,8 +38,9 @@ same-length-2 c = search needs
 
 returns-2 : tie.Need-returns-2
 returns-2 c =
-    let a = c .before .before .before .before .before .before .before .before .args in
-    written-as (ap (λ (d : Design). answerListing d (a .table .now)) (sym (kronecker-design _ (c .before .before .before .before .enum-told .given .1)))) (c .before .before .write-kind .ensures)
+    let s = c .before .before .before .before .before .before .before .before in
+    let kind = c .before .before .before .before .enum-told .given .1 in
+    written-as (ap (λ (d : Design). answerListing d (s .args .table .now)) (sym (kronecker-design _ kind (s .pre .sized)))) (c .before .before .write-kind .ensures)
 
 pub write-answer-spec : {M : Type 1} → statement M
 write-answer-spec =

@@ -40,7 +40,7 @@ write-listing-requires c κs =
     let s = c .before .before .before .before .before in
     let d = blockDesign (s .args .sizes) in
     subst (Listable _ _) (sym (found (c .before)))
-    (block-listable _ _ _ (table-sized d (s .pre .sized)) (s .pre .table) (s .args .sizes .k) (block-sized d _ refl (s .pre .sized)))
+    (block-listable _ _ _ (table-sized d (s .pre .sized)) (s .pre .table) (s .args .sizes .family) (s .args .sizes .k) (block-sized d _ refl (s .pre .sized)))
 
 same-length : tie.Need-same-length
 same-length c = search needs
@@ -49,7 +49,8 @@ returns : tie.Need-returns
 unfolding answerListing
 returns c =
     let a = c .before .before .before .before .before .before .before .before .args in
-    written-as (ap (λ (e : Expansion). listing (a .sizes .n) (a .sizes .m) (a .sizes .k) e) (found (c .before .before .before .before))) (c .before .before .write-listing .ensures)
+    written-as (ap (λ (e : Expansion). listing (a .sizes .family) (a .sizes .n) (a .sizes .m) (a .sizes .k) e) (found (c .before .before .before .before)))
+    (c .before .before .write-listing .ensures)
 
 pub write-block-spec : {M : Type 1} → statement M
 write-block-spec =
