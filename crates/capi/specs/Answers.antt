@@ -30,7 +30,7 @@ transformNumbers (Refused number line) = number ∷ line ∷ []
 
 -- the answer that is decided for n, m, k, the table and the lengths of the two buffers to fill
 abbrev pub decidedMinimum : ℕ → ℕ → ℕ → List ℕ → ℕ → ℕ → Minimised
-decidedMinimum n m k table coefficients blocks = minimising.minimised (minimising.minimiseRefusal n m k table coefficients blocks) (answerExpansion n k (at table))
+decidedMinimum n m k table coefficients blocks = minimising.minimised (minimising.minimiseRefusal n m k table coefficients blocks) (answerExpansion One n k (at table))
 
 -- "returns M, i, products and literals", after the number and the line, all 0 under a refusal
 unfoldable pub minimumNumbers : Minimised → List ℕ

@@ -67,7 +67,7 @@ unfolding checked judgedDesign answerListing
 own-same text z table e =
     let a = reading-accepted text (blockDesign z) table e in
     let sized = block-sized (blockDesign z) (z .k) refl (a .sized) in
-    let minimal = answerExpansion-is (z .n) (z .k) (at table) (a .sized .inputs .1) (a .sized .mixed .1) in
+    let minimal = answerExpansion-is (z .family) (z .n) (z .k) (at table) (a .sized .inputs .1) (a .sized .mixed .1) in
     ap (λ (x : Reading). checked x (answerListing (blockDesign z) table)) e
-    ∙ member-same z table (answerExpansion (z .n) (z .k) (at table)) sized (answer-record z (at table) sized (λ p h. a .table .small p))
+    ∙ member-same z table (answerExpansion (z .family) (z .n) (z .k) (at table)) sized (answer-record z (at table) sized (λ p h. a .table .small p))
     (minimal .answer .gives)

@@ -21,6 +21,7 @@ use Rattle.membership.specs.Class.{shownPolarity, shownInputs, shownIn}
 use Rattle.membership.proofs.Shown.{shown-ext, shown-back, shown-past}
 use Rattle.membership.proofs.Answers.{answer-shown}
 use Rattle.search.specs.declared.expansion.Expansion.{Expansion}
+use Rattle.expansions.specs.declared.families.Family.{Family}
 use Rattle.search.specs.Expansion.{answerExpansion}
 use Rattle.search.proofs.expansion.Answer.{answerExpansion-is, expansion-coefficients, expansion-blocks, expansion-coefficients-lt}
 use Rattle.listings.specs.Listing.{listing}
@@ -33,13 +34,13 @@ use Rattle.listing_texts.specs.Record.{shownExpansion, shownRead, handed
 use Rattle.listing_texts.specs.ReadBack.{MemberRecord, asShown}
 use Rattle.listing_texts.proofs.Exactness.{writtenRows, writtenForm, row-coefficient, row-complemented, listing-written}
 
-coefficients-long : (n k : ℕ) (f : ℕ → ℕ) → length (answerExpansion n k f .coefficients) ≡ 256
+coefficients-long : (F : Family) (n k : ℕ) (f : ℕ → ℕ) → length (answerExpansion F n k f .coefficients) ≡ 256
 unfolding answerExpansion
-coefficients-long n k f = length-tabulate 256 _
+coefficients-long F n k f = length-tabulate 256 _
 
-blocks-long : (n k : ℕ) (f : ℕ → ℕ) → length (answerExpansion n k f .blocks) ≡ 256
+blocks-long : (F : Family) (n k : ℕ) (f : ℕ → ℕ) → length (answerExpansion F n k f .blocks) ≡ 256
 unfolding answerExpansion
-blocks-long n k f = length-tabulate 256 _
+blocks-long F n k f = length-tabulate 256 _
 
 module _ (z : Sizes) (e : Expansion) (sized : Sized (z .n) (z .m) (z .k)) (r : MemberRecord z e) where
   abbrev w : ℕ → ℕ
@@ -102,32 +103,32 @@ module _ (z : Sizes) (e : Expansion) (sized : Sized (z .n) (z .m) (z .k)) (r : M
 
 module _ (z : Sizes) (f : ℕ → ℕ) (sized : Sized (z .n) (z .m) (z .k)) (small : (p : ℕ) → p < 2 ^ z .n → f p < 2 ^ z .m) where
   abbrev answer : Expansion
-  answer = answerExpansion (z .n) (z .k) f
+  answer = answerExpansion (z .family) (z .n) (z .k) f
 
   pub answer-record : MemberRecord z answer
   answer-record =
-      let minimal = answerExpansion-is (z .n) (z .k) f (sized .inputs .1) (sized .mixed .1) in
+      let minimal = answerExpansion-is (z .family) (z .n) (z .k) f (sized .inputs .1) (sized .mixed .1) in
       record {
         member = minimal .answer .member;
         long = answer-long;
-        rest = λ t h. expansion-coefficients (z .n) (z .k) f (sized .inputs .1) t ∙ answer-coefficient-zero (z .n) (z .k) f t h;
-        outputs = expansion-coefficients-lt (z .n) (z .k) f (sized .inputs .1) (z .m) (sized .mixed .1) small;
+        rest = λ t h. expansion-coefficients (z .family) (z .n) (z .k) f (sized .inputs .1) t ∙ answer-coefficient-zero (z .family) (z .n) (z .k) f t h;
+        outputs = expansion-coefficients-lt (z .family) (z .n) (z .k) f (sized .inputs .1) (z .m) (sized .mixed .1) small;
         products-counted = minimal .products-counted;
         literals-counted = minimal .literals-counted;
       }
     where
-      answer-long : length (answerExpansion (z .n) (z .k) f .coefficients) ≡ 256
-      answer-long = coefficients-long (z .n) (z .k) f
+      answer-long : length (answerExpansion (z .family) (z .n) (z .k) f .coefficients) ≡ 256
+      answer-long = coefficients-long (z .family) (z .n) (z .k) f
 
   whole-blocks : asShown z answer .blocks ≡ answer .blocks
   unfolding asShown only
-  whole-blocks = sym (is-table 256 _ (answer .blocks) (blocks-long (z .n) (z .k) f) (λ j h. go j (ltb j (2 ^ (z .n - z .k))) refl)) where
+  whole-blocks = sym (is-table 256 _ (answer .blocks) (blocks-long (z .family) (z .n) (z .k) f) (λ j h. go j (ltb j (2 ^ (z .n - z .k))) refl)) where
     go : (j : ℕ) (b : Bool) → ltb j (2 ^ (z .n - z .k)) ≡ b
         → at (answer .blocks) j ≡ only b (bitAnd (at (answer .blocks) j) (shownInputs (z .n) (answer .mixed) (at (answer .coefficients)) j))
     go j true l =
-        let minimal = answerExpansion-is (z .n) (z .k) f (sized .inputs .1) (sized .mixed .1) in
-        sym (answer-shown (z .n) (z .k) f _ _ _ _ (minimal .answer) j (ltb-true j (2 ^ (z .n - z .k)) l))
-    go j false l = expansion-blocks (z .n) (z .k) f (sized .inputs .1) j ∙ answer-polarity-zero (z .n) (z .k) f j (ltb-false j (2 ^ (z .n - z .k)) l)
+        let minimal = answerExpansion-is (z .family) (z .n) (z .k) f (sized .inputs .1) (sized .mixed .1) in
+        sym (answer-shown (z .family) (z .n) (z .k) f _ _ _ _ (minimal .answer) j (ltb-true j (2 ^ (z .n - z .k)) l))
+    go j false l = expansion-blocks (z .family) (z .n) (z .k) f (sized .inputs .1) j ∙ answer-polarity-zero (z .family) (z .n) (z .k) f j (ltb-false j (2 ^ (z .n - z .k)) l)
 
   whole : asShown z answer ≡ answer
   unfolding asShown

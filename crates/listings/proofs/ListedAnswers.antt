@@ -8,7 +8,7 @@ use Rattle.search.specs.declared.expansion.Expansion.{Expansion}
 use Rattle.expansions.specs.Members.{polarity}
 use Rattle.expansions.specs.declared.families.Family.{Family}
 use Rattle.expansions.specs.declared.kinds.Kind.the-variants.{Block}
-use Rattle.expansions.specs.Costs.{NoDearer}
+use Rattle.expansions.specs.Rules.{NoDearer}
 use Rattle.expansions.proofs.Costs.{literals-lt}
 use Rattle.expansions.proofs.Rivals.{block-rivals}
 use Rattle.listings.specs.Listing.{numbersOf, listing}
@@ -16,7 +16,7 @@ use Rattle.listings.specs.inner.Listable.{Listable}
 use Rattle.listings.specs.Meaning.{listingValue, listingProducts, listingLiterals, IsListing}
 use Rattle.listings.proofs.Meaning.{listing-value, listing-products, listing-literals, stated-products, stated-literals}
 
-module _ (family : Family) (n m k : ℕ) (e : Expansion) (f : ℕ → ℕ) (hn : n ≤ 8) (hm : m ≤ 8) (hk : k ≤ 3) (minimal : Answered n k f e) where
+module _ (family : Family) (n m k : ℕ) (e : Expansion) (f : ℕ → ℕ) (hn : n ≤ 8) (hm : m ≤ 8) (hk : k ≤ 3) (minimal : Answered family n k f e) where
   w : ℕ → ℕ
   w = polarity n (e .mixed) (e .fixed) (at (e .blocks))
 
@@ -40,12 +40,12 @@ module _ (family : Family) (n m k : ℕ) (e : Expansion) (f : ℕ → ℕ) (hn :
   counts-literals = listing-literals family (numbersOf n m k e) n m w (at (e .coefficients)) ∙ sym (minimal .literals-counted)
 
   -- demand 3
-  pub answer-listed : ((t : ℕ) → t < 2 ^ n → at (e .coefficients) t < 2 ^ m) → IsListing n (Block k) f (listing family n m k e)
+  pub answer-listed : ((t : ℕ) → t < 2 ^ n → at (e .coefficients) t < 2 ^ m) → IsListing n family (Block k) f (listing family n m k e)
   answer-listed small =
       record {
         gives = answer-given small;
         products-stated = stated-products family n m k e answer-listable (omega arith) few ∙ sym counts-products;
         literals-stated = stated-literals family n m k e answer-listable (omega arith) few ∙ sym counts-literals;
         cheapest =
-            rw (counts-products, counts-literals) (block-rivals n k f (NoDearer (e .products) (e .literals)) (minimal .cheapest));
+            rw (counts-products, counts-literals) (block-rivals n k f (NoDearer family (e .products) (e .literals)) (minimal .cheapest));
       }

@@ -60,7 +60,7 @@ listing-most family n m k e hn hm hk M i few =
 
 -- ---- the answer's listing
 
-module _ (family : Family) (n m k : ℕ) (e : Expansion) (f : ℕ → ℕ) (hn : n ≤ 8) (hm : m ≤ 8) (hk : k ≤ 3) (minimal : Answered n k f e) where
+module _ (family : Family) (n m k : ℕ) (e : Expansion) (f : ℕ → ℕ) (hn : n ≤ 8) (hm : m ≤ 8) (hk : k ≤ 3) (minimal : Answered family n k f e) where
   pub listing-longest : k ≤ n → length (listing family n m k e) ≤ 5912 + length (formWord family)
   listing-longest le = go (ltb (e .products) 256) refl where
     size : 2 ^ n ≤ 256
@@ -76,7 +76,7 @@ module _ (family : Family) (n m k : ℕ) (e : Expansion) (f : ℕ → ℕ) (hn :
         let fewer : products n (at (e .coefficients)) ≤ 255 = omega (arith, ltb-true (e .products) 256 h, minimal .products-counted) in
         omega (arith, length-le family n m k e hn hm (omega arith) few 6 255 (omega arith) fewer)
     go false h =
-        let least = full-least n k f _ _ _ _ _ _ le minimal (omega (arith, size, ltb-false (e .products) 256 h)) in
+        let least = full-least family n k f _ _ _ _ _ _ le minimal (omega (arith, size, ltb-false (e .products) 256 h)) in
         let mixed : digitCount (e .mixed) ≡ 1 = digitCount-one (e .mixed) (omega (arith, least .0, pow-mono {i = k} {j = 3} hk)) in
         let fixed : digitCount (e .fixed) ≡ 1 = digitCount-one (e .fixed) (omega (arith, least .1)) in
         length-le family n m k e hn hm (omega arith) few 2 256 (omega arith) (omega (arith, few, minimal .products-counted))

@@ -20,9 +20,9 @@ use Rattle.listings.specs.Listing.{listing}
 use Rattle.listings.specs.Meaning.{IsListing}
 use Rattle.listing_writing.specs.Write.{recordListing}
 
--- the listing of the answer for a table, by the kind of k: of document 01's class, for a part of the family, or of document 02's Kronecker expansions
+-- the listing of the family's answer for a table, by the kind of k: of document 01's class, or of document 02's Kronecker expansions
 abbrev pub kindListing : Family → ℕ → ℕ → Kind → List ℕ → List ℕ
-kindListing family n m (Block k) table = listing family n m k (answerExpansion n k (at table))
+kindListing family n m (Block k) table = listing family n m k (answerExpansion family n k (at table))
 kindListing family n m Kronecker table = recordListing n m (answerKronecker n (at table))
 
 -- the listing of the answer for a table of the design d
@@ -46,4 +46,4 @@ pub record Compile (text before after : List ℕ) (r : Compiled) : Type 0 where
   pub answer : r ≡ compiled (reading text) (length before)
   pub bytes : after ≡ bufferAfter (reading text) before
   pub meaning : (d : Design) (table : List ℕ) (written : ℕ) → reading text ≡ given d table → r ≡ Written written
-      → IsListing (d .n) (d .kind) (at table) (take written after)
+      → IsListing (d .n) (d .family) (d .kind) (at table) (take written after)

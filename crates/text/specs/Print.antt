@@ -36,7 +36,7 @@ pub record Print (input held : List ℕ) (count : ℕ) : Type 0 where
   pub filled : held ≡ printed input ++ replicate (5919 - length (printed input)) 0
   pub within : count ≤ length held
   pub shown : take count held ≡ printed input
-  pub meaning : (d : Design) (table : List ℕ) → reading (judged input) ≡ given d table → IsListing (d .n) (d .kind) (at table) (take count held)
+  pub meaning : (d : Design) (table : List ℕ) → reading (judged input) ≡ given d table → IsListing (d .n) (d .family) (d .kind) (at table) (take count held)
   pub refusal : (number l : ℕ) → reading (judged input) ≡ refused number l → firstNumbers (take count held) ≡ number ∷ l ∷ []
   -- "(every text that can be accepted is shorter)": where the whole input is a text that is accepted, its listing is printed
   pub whole : (d : Design) (table : List ℕ) → reading input ≡ given d table → take count held ≡ answerListing d table

@@ -35,7 +35,7 @@ fn write_block(sizes: Sizes, table: &[u8], output: &mut [u8]) -> Listed
     let k = sizes.k;
     let family = sizes.family;
     let size: usize = 1 << n;
-    let answer = find_answer(n, m, k, &table[..size]);
+    let answer = find_answer(family, n, m, k, &table[..size]);
     write_listing(family, n, m, k, answer, output)
 }
 

@@ -11,11 +11,13 @@ use lib.Seq.{take-append-seam}
 use Rattle.numbers.specs.Bytes.{at}
 use Rattle.search.specs.Expansion.{answerExpansion}
 use Rattle.search.proofs.expansion.Answer.{answerExpansion-is, expansion-coefficients-lt}
+use Rattle.expansions.specs.declared.families.Family.{Family}
+use Rattle.expansions.specs.declared.families.Family.the-variants.{One, Two}
 use Rattle.expansions.specs.declared.kinds.Kind.{Kind}
 use Rattle.expansions.specs.declared.kinds.Kind.the-variants.{Block, Kronecker}
 use Rattle.kronecker.proofs.expansion.Answer.{answerKronecker-is, answerKronecker-literals-le, kronecker-coefficients-lt}
 use Rattle.table_texts.specs.declared.sizes.Design.{Design}
-use Rattle.table_texts.specs.Design.{KindSized}
+use Rattle.table_texts.specs.Design.{KindSized, KindFor}
 use Rattle.table_texts.specs.declared.read.ReadAnswer.{ReadAnswer}
 use Rattle.table_texts.specs.declared.read.ReadAnswer.the-variants as answer
 use Rattle.text.specs.declared.compile.Compiled.{Compiled}
@@ -30,20 +32,21 @@ use Rattle.listings.proofs.Kronecker.{kronecker-listed}
 
 -- ---- the listing of the answer
 
-pub answer-listing : (d : Design) (table : List ℕ) → Accepted d table → IsListing (d .n) (d .kind) (at table) (answerListing d table)
+pub answer-listing : (d : Design) (table : List ℕ) → Accepted d table → IsListing (d .n) (d .family) (d .kind) (at table) (answerListing d table)
 unfolding answerListing
-answer-listing d table a = go (d .kind) (a .sized .mixed) where
-  go : (x : Kind) → KindSized (d .n) x → IsListing (d .n) x (at table) (kindListing (d .family) (d .n) (d .m) x table)
-  go (Block k) s =
-      let minimal = answerExpansion-is (d .n) k (at table) (a .sized .inputs .1) (s .1) in
-      let small = expansion-coefficients-lt (d .n) k (at table) (a .sized .inputs .1) (d .m) (s .1) (λ p h. a .table .small p) in
-      answer-listed (d .family) (d .n) (d .m) k (answerExpansion (d .n) k (at table)) (at table) (a .sized .inputs .1) (a .sized .outputs .1) (s .0) minimal
+answer-listing d table a = go (d .family) (d .kind) (a .sized .mixed) (a .sized .family) where
+  go : (F : Family) (x : Kind) → KindSized (d .n) x → KindFor F x → IsListing (d .n) F x (at table) (kindListing F (d .n) (d .m) x table)
+  go F (Block k) s _ =
+      let minimal = answerExpansion-is F (d .n) k (at table) (a .sized .inputs .1) (s .1) in
+      let small = expansion-coefficients-lt F (d .n) k (at table) (a .sized .inputs .1) (d .m) (s .1) (λ p h. a .table .small p) in
+      answer-listed F (d .n) (d .m) k (answerExpansion F (d .n) k (at table)) (at table) (a .sized .inputs .1) (a .sized .outputs .1) (s .0) minimal
       (λ t l. small t)
-  go Kronecker s =
+  go One Kronecker s _ =
       let minimal = answerKronecker-is (d .n) (at table) (a .sized .inputs .1) in
       let small = kronecker-coefficients-lt (d .n) (at table) (a .sized .inputs .1) (d .m) (λ p h. a .table .small p) in
       kronecker-listed (d .n) (d .m) (at table) _ _ _ _ (a .sized .inputs .1) minimal
       (omega (arith, answerKronecker-literals-le (d .n) (at table) (a .sized .inputs .1))) (λ t h. small t)
+  go Two Kronecker s none = absurd none
 
 -- ---- the text call
 
@@ -68,7 +71,7 @@ compile-meaning text before after r er ea =
       bytes = ea;
       meaning = λ d table written e w.
           let listed = written-listing d table before after written (sym w ∙ er ∙ ap (λ (x : Reading). compiled x (length before)) e) (ea ∙ ap (λ (x : Reading). bufferAfter x before) e) in
-          subst (IsListing (d .n) (d .kind) (at table)) (sym listed) (answer-listing d table (reading-accepted text d table e));
+          subst (IsListing (d .n) (d .family) (d .kind) (at table)) (sym listed) (answer-listing d table (reading-accepted text d table e));
     }
 
 -- by the reading call's answer

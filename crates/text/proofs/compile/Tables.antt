@@ -64,17 +64,17 @@ module _ (n m : ℕ) (table : List ℕ) (s : TableSized n m) (t : Table n m tabl
       go p (no h) = rw (List·getD-eq-default part 0 {n = p} (omega (arith, part-long))) (pow-pos m)
 
   -- the searches hand up the answer of the whole table
-  pub searched-block : (k : ℕ) → Sized n m k → searched n m k (take (1 * 2 ^ n % 2 ^ 64) table) ≡ answerExpansion n k (at table)
+  pub searched-block : (F : Family) (k : ℕ) → Sized n m k → searched F n m k (take (1 * 2 ^ n % 2 ^ 64) table) ≡ answerExpansion F n k (at table)
   unfolding part
-  searched-block k z = searched-answer n m k part z part-long part-clean ∙ answerExpansion-ext n k (at part) (at table) part-at
+  searched-block F k z = searched-answer F n m k part z part-long part-clean ∙ answerExpansion-ext F n k (at part) (at table) part-at
 
   pub searched-kind : searchedKronecker n m (take (1 * 2 ^ n % 2 ^ 64) table) ≡ answerKronecker n (at table)
   unfolding part
   searched-kind = searched-kronecker n m part s part-long (same-test (allBelow (2 ^ m) part) true (λ t. tt) (λ t. part-clean)) ∙ answerKronecker-ext n (at part) (at table) part-at
 
-  pub block-listable : (family : Family) (k : ℕ) → Sized n m k → Listable n m (answerExpansion n k (at table))
-  block-listable family k z =
-      answer-listable family n m k _ (at table) (s .inputs .1) (s .outputs .1) (z .mixed .0) (answerExpansion-is n k (at table) (s .inputs .1) (z .mixed .1))
+  pub block-listable : (F : Family) (k : ℕ) → Sized n m k → Listable n m (answerExpansion F n k (at table))
+  block-listable F k z =
+      answer-listable F n m k _ (at table) (s .inputs .1) (s .outputs .1) (z .mixed .0) (answerExpansion-is F n k (at table) (s .inputs .1) (z .mixed .1))
 
   pub kind-listable : KroneckerListable n m (answerKronecker n (at table))
   kind-listable =

@@ -42,8 +42,8 @@ unfolding answerListing
 listing-within d table a = go (d .kind) (a .sized .mixed) where
   go : (x : Kind) → KindSized (d .n) x → length (kindListing (d .family) (d .n) (d .m) x table) ≤ 5919
   go (Block k) s =
-      let most = listing-longest (d .family) (d .n) (d .m) k (answerExpansion (d .n) k (at table)) (at table) (a .sized .inputs .1) (a .sized .outputs .1) (s .0)
-      (answerExpansion-is (d .n) k (at table) (a .sized .inputs .1) (s .1)) (s .1) in
+      let most = listing-longest (d .family) (d .n) (d .m) k (answerExpansion (d .family) (d .n) k (at table)) (at table) (a .sized .inputs .1) (a .sized .outputs .1) (s .0)
+      (answerExpansion-is (d .family) (d .n) k (at table) (a .sized .inputs .1) (s .1)) (s .1) in
       omega (arith, most, length-formWord (d .family))
   go Kronecker s =
       kronecker-longest (d .n) (d .m) _ _ _ _ (a .sized .inputs .1) (a .sized .outputs .1)
@@ -78,7 +78,7 @@ print-holds input held count ec eh =
       within = omega (arith, ec, ap length filled, length-append (printed input) (replicate (5919 - length (printed input)) 0));
       shown = shown;
       meaning = λ d table e.
-          subst (IsListing (d .n) (d .kind) (at table)) (sym (shown ∙ ap printedFor e)) (answer-listing d table (reading-accepted (judged input) d table e));
+          subst (IsListing (d .n) (d .family) (d .kind) (at table)) (sym (shown ∙ ap printedFor e)) (answer-listing d table (reading-accepted (judged input) d table e));
       refusal = λ number l e. ap firstNumbers (shown ∙ ap printedFor e) ∙ refusal-said input number l e;
       whole = λ z table e. shown ∙ ap (λ (x : List ℕ). printedFor (reading x)) (accepted-text-first input z table e) ∙ ap printedFor e;
     }

@@ -17,12 +17,12 @@ use Rattle.text.proofs.compile.write_block.Tie as tie
 -- the search hands up the answer of the table
 found : (c : tie.After-find-answer)
     → let a = c .before .before .before .before .args in
-    c .find-answer .result ≡ answerExpansion (a .sizes .n) (a .sizes .k) (at (a .table .now))
+    c .find-answer .result ≡ answerExpansion (a .sizes .family) (a .sizes .n) (a .sizes .k) (at (a .table .now))
 found c =
     let s = c .before .before .before .before in
     let d = blockDesign (s .args .sizes) in
     c .find-answer .ensures
-    ∙ searched-block _ _ _ (table-sized d (s .pre .sized)) (s .pre .table) (s .args .sizes .k) (block-sized d _ refl (s .pre .sized))
+    ∙ searched-block _ _ _ (table-sized d (s .pre .sized)) (s .pre .table) (s .args .sizes .family) (s .args .sizes .k) (block-sized d _ refl (s .pre .sized))
 
 shl-size : tie.Need-shl-size
 shl-size c = search needs
