@@ -1,11 +1,13 @@
 -- How an exported call tells its answer: the refusal's number and its line, and then the numbers that the call returns.
-use mathlib.Core.List.{List, [], _∷_}
+use mathlib.Core.List.{List, [], _∷_, _++_}
 use Prim.Native.Nat.{ℕ}
 use lib.ListN.{length}
 use Rattle.numbers.specs.Bytes.{at}
 use Rattle.algebra.specs.Calls.{transformRefusal, transformed}
 use Rattle.algebra.specs.declared.calls.Transformed.{Transformed}
 use Rattle.algebra.specs.declared.calls.Transformed.the-variants.{Done, Refused}
+use Rattle.expansions.specs.declared.families.Family.{Family}
+use Rattle.expansions.specs.declared.families.Family.the-variants.{One, Two}
 use Rattle.expansions.specs.declared.kinds.Kind.{Kind}
 use Rattle.expansions.specs.declared.kinds.Kind.the-variants.{Block, Kronecker}
 use Rattle.search.specs.Calls as minimising
@@ -42,14 +44,19 @@ abbrev pub kindNumbers : Kind → List ℕ
 kindNumbers (Block k) = k ∷ 1 ∷ []
 kindNumbers Kronecker = 0 ∷ 2 ∷ []
 
--- "returns n, m, k", and "returns the kind of k", after the number and the line
+-- "the family too": 1 for `table`, and 2 for `table2`
+unfoldable pub familyNumber : Family → ℕ
+familyNumber One = 1
+familyNumber Two = 2
+
+-- "returns n, m, k", "returns the kind of k", and "returns the family too", after the number and the line
 unfoldable pub designNumbers : Design → List ℕ
-designNumbers d = 0 ∷ 0 ∷ d .n ∷ d .m ∷ kindNumbers (d .kind)
+designNumbers d = 0 ∷ 0 ∷ d .n ∷ d .m ∷ kindNumbers (d .kind) ++ familyNumber (d .family) ∷ []
 
 -- the numbers of the design that was read, all 0 under a refusal
 unfoldable pub readNumbers : reading.Reading → List ℕ
 readNumbers (reading.given design table) = designNumbers design
-readNumbers (reading.refused number line) = number ∷ line ∷ 0 ∷ 0 ∷ 0 ∷ 0 ∷ []
+readNumbers (reading.refused number line) = number ∷ line ∷ 0 ∷ 0 ∷ 0 ∷ 0 ∷ 0 ∷ []
 
 -- "returns the length", after the number and the line, 0 under a refusal
 unfoldable pub listingNumbers : Compiled → List ℕ

@@ -1,5 +1,6 @@
-// The reading call and the text call. The reading call's answer is six numbers: the refusal's number and its line, n, m, k and the kind of k.
-// The text call's answer is three: the refusal's number and its line, and the listing's length.
+// The reading call and the text call. The reading call's answer is seven numbers: the refusal's number and its line, n, m, k, the kind of k and the
+// family. The text call's answer is three: the refusal's number and its line, and the listing's length.
+use expansions::families::Family;
 use expansions::kinds::Kind;
 use table_texts::read::ReadAnswer;
 use table_texts::sizes::Design;
@@ -10,26 +11,40 @@ ghost use Prim.Native.Nat.{ℕ};
 ghost use lib.ListN.{length};
 ghost use Rattle.table_texts.specs.Read.{reading, lent, standsFor, tableAfter};
 ghost use Rattle.text.specs.Compile.{compiled, Compile};
-ghost use Rattle.capi.specs.Answers.{designNumbers, readNumbers, listingNumbers};
+ghost use Rattle.capi.specs.Answers.{familyNumber, designNumbers, readNumbers, listingNumbers};
+
+// The number that stands for a family: 1 for `table`, and 2 for `table2`.
+fn family_number(family: Family) -> u64
+    ensures { λ r. ⌜ r ≡ familyNumber family ⌝ }
+{
+    match family {
+        Family::One => 1,
+        Family::Two => 2,
+    }
+}
 
 // The numbers that stand for a design that was read. The kind is 1 where k is a number, and 2 with k = 0 for `K`.
-fn design_numbers(design: Design) -> [u64; 6]
+fn design_numbers(design: Design) -> [u64; 7]
     ensures { λ a. ⌜ a ≡ designNumbers design ⌝ }
 {
     let kind = design.kind;
+    let part = design.family;
+    let n = design.n as u64;
+    let m = design.m as u64;
+    let family = family_number(part);
     match kind {
-        Kind::Block(k) => [0, 0, design.n as u64, design.m as u64, k as u64, 1],
-        Kind::Kronecker => [0, 0, design.n as u64, design.m as u64, 0, 2],
+        Kind::Block(k) => [0, 0, n, m, k as u64, 1, family],
+        Kind::Kronecker => [0, 0, n, m, 0, 2, family],
     }
 }
 
 // The numbers that stand for the reading call's answer.
-fn read_numbers(r: ReadAnswer) -> [u64; 6]
+fn read_numbers(r: ReadAnswer) -> [u64; 7]
     ensures { λ a. ⌜ ((table : List ℕ) → a ≡ readNumbers (standsFor r table)) ⌝ }
 {
     match r {
         ReadAnswer::Given(design) => design_numbers(design),
-        ReadAnswer::Refused { number, line } => [number as u64, line as u64, 0, 0, 0, 0],
+        ReadAnswer::Refused { number, line } => [number as u64, line as u64, 0, 0, 0, 0, 0],
     }
 }
 
@@ -45,7 +60,7 @@ fn listing_numbers(r: Compiled) -> [u64; 3]
 
 // Takes a table text and fills a table of 256 bytes, as `table_texts::read::read_table` does, which judges and refuses.
 #[no_mangle]
-pub extern "C" fn mipaldoz_read(text: &[u8], table: &mut [u8], answer: &mut [u64; 6])
+pub extern "C" fn mipaldoz_read(text: &[u8], table: &mut [u8], answer: &mut [u64; 7])
     ensures bytes { λ _. ⌜ now (table .exit) ≡ tableAfter (lent (reading (now (text .entry))) (length (now (table .entry)))) (now (table .entry)) ⌝ }
     ensures answer { λ _. ⌜ now (answer .exit) ≡ readNumbers (lent (reading (now (text .entry))) (length (now (table .entry)))) ⌝ }
 {

@@ -1,8 +1,11 @@
--- `design_numbers` meets its contract, by the kind of k.
+-- `design_numbers` meets its contract, by the kind of k and the number of the family.
 use borrow.Author.Needs.{needs}
 use Rattle.capi.specs.Answers.{designNumbers}
 use Rattle.capi.proofs.table_text.design_numbers.Statement.{statement}
 use Rattle.capi.proofs.table_text.design_numbers.Tie as tie
+
+family-number-requires : tie.Need-family-number-requires
+family-number-requires c κs = search needs
 
 enum-known-kind : tie.Need-enum-known-kind
 enum-known-kind c = search needs
@@ -12,11 +15,11 @@ enum-told c = search needs
 
 returns : tie.Need-returns
 unfolding designNumbers
-returns c = rw (c .before .kind .given .1)
+returns c = rw (c .before .kind .given .1, c .before .before .before .family-number .ensures)
 
 returns-2 : tie.Need-returns-2
 unfolding designNumbers
-returns-2 c = rw (c .enum-told .given .1)
+returns-2 c = rw (c .enum-told .given .1, c .before .before .family-number .ensures)
 
 pub design-numbers-spec : {M : Type 1} → statement M
-design-numbers-spec = tie.close (tie.spec enum-known-kind enum-told returns returns-2)
+design-numbers-spec = tie.close (tie.spec family-number-requires enum-known-kind enum-told returns returns-2)
