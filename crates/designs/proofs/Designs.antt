@@ -17,7 +17,9 @@ use Rattle.numbers.proofs.Tests.{same-test, and-left, and-right}
 use Rattle.algebra.specs.Coefficients.{xorInside, coefficient}
 use Rattle.expansions.specs.Split.{putDigit, lowDigit, dropDigit, gather, spread, outside, join}
 use Rattle.expansions.specs.Members.{polarity}
-use Rattle.expansions.specs.Costs.{counted, weight, products, literals}
+use Rattle.expansions.specs.declared.families.Family.the-variants.{One}
+use Rattle.expansions.specs.Costs.{counted, products, literals}
+use Rattle.expansions.specs.Rules.{weight}
 use Rattle.expansions.specs.Least.{better, firstLeast, chosen}
 use Rattle.expansions.specs.BlockTable.{entry}
 use Rattle.expansions.specs.Answers.{blockFunction, memberCoefficient, blockCharge, leastPolarity, pairCharge, validPair, leastPair}
@@ -94,13 +96,13 @@ designs-hold = all-hold markedDesigns all-agree
 
 module _ (k cost : ℕ) where
   row : Design
-  row = states (costOf 2 k withoutTable) (cost ∷ 3 ∷ [])
+  row = states (costOf One 2 k withoutTable) (cost ∷ 3 ∷ [])
 
-  row-products : List·Memᴰ row markedDesigns → products 2 (answerCoefficient 2 k (at withoutTable)) ≡ cost
+  row-products : List·Memᴰ row markedDesigns → products 2 (answerCoefficient One 2 k (at withoutTable)) ≡ cost
   unfolding row computed
   row-products m = let costs = designs-hold row m in cc
 
-pub larger-k-dearer : products 2 (answerCoefficient 2 1 (at withoutTable)) < products 2 (answerCoefficient 2 2 (at withoutTable))
+pub larger-k-dearer : products 2 (answerCoefficient One 2 1 (at withoutTable)) < products 2 (answerCoefficient One 2 2 (at withoutTable))
 unfolding markedDesigns row
 larger-k-dearer =
     let one = row-products 1 2 (search (List·Memᴰ·head, List·Memᴰ·tail) depth 20) in

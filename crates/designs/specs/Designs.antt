@@ -35,10 +35,10 @@ pub data Asked : Type 0 where
   termsAt : (n w : ℕ) → List ℕ → Asked
   -- entry (g, φ) of the block table
   entryAt : (g φ : ℕ) → Asked
-  -- M, i, products and literals of the answer for a table of n inputs with k mixed
-  answerFor : (n k : ℕ) → List ℕ → Asked
+  -- M, i, products and literals of the family's answer for a table of n inputs with k mixed
+  answerFor : Family → (n k : ℕ) → List ℕ → Asked
   -- its products and literals
-  costOf : (n k : ℕ) → List ℕ → Asked
+  costOf : Family → (n k : ℕ) → List ℕ → Asked
   -- the letters, from xn down, and the products and literals of the Kronecker answer for a table of n inputs
   kindFor : (n : ℕ) → List ℕ → Asked
   -- what a table text means
@@ -59,9 +59,9 @@ unfoldable pub termsBelow : ℕ → (ℕ → ℕ) → List ℕ
 termsBelow zero c = []
 termsBelow (suc N) c = elim (c N) [ zero ↦ termsBelow N c | suc x ↦ termsBelow N c ++ (N ∷ []) ]
 
--- the products and literals of the answer
-abbrev pub costs : ℕ → ℕ → List ℕ → List ℕ
-costs n k table = products n (answerCoefficient n k (at table)) ∷ literals n (answerCoefficient n k (at table)) ∷ []
+-- the products and literals of the family's answer
+abbrev pub costs : Family → ℕ → ℕ → List ℕ → List ℕ
+costs F n k table = products n (answerCoefficient F n k (at table)) ∷ literals n (answerCoefficient F n k (at table)) ∷ []
 
 -- the letters from xn down, and the products and literals, of the Kronecker answer
 abbrev pub kindCosts : ℕ → List ℕ → List ℕ
@@ -98,8 +98,8 @@ meaning (refused number line) = refusal number line
 unfoldable pub computed : Asked → List ℕ
 computed (termsAt n w table) = termsBelow (2 ^ n) (coefficient n w (at table))
 computed (entryAt g φ) = entry g φ ∷ []
-computed (answerFor n k table) = answerMixed n k (at table) ∷ answerFixed n k (at table) ∷ costs n k table
-computed (costOf n k table) = costs n k table
+computed (answerFor F n k table) = answerMixed F n k (at table) ∷ answerFixed F n k (at table) ∷ costs F n k table
+computed (costOf F n k table) = costs F n k table
 computed (kindFor n table) = kindCosts n table
 computed (meaningOf text) = meaning (reading (bytes text))
 computed (printedOf text) = printed (bytes text)
@@ -226,21 +226,21 @@ markedDesigns =
     ∷ states (entryAt 136 0) (8 ∷ [])
     ∷ states (entryAt 12 5) (64 ∷ [])
     -- "M = 2^k − 1, i = 0, 0 products", and so 0 literals
-    ∷ states (answerFor 2 0 zeroTable) (0 ∷ 0 ∷ 0 ∷ 0 ∷ [])
-    ∷ states (answerFor 2 1 zeroTable) (1 ∷ 0 ∷ 0 ∷ 0 ∷ [])
-    ∷ states (answerFor 2 2 zeroTable) (3 ∷ 0 ∷ 0 ∷ 0 ∷ [])
+    ∷ states (answerFor One 2 0 zeroTable) (0 ∷ 0 ∷ 0 ∷ 0 ∷ [])
+    ∷ states (answerFor One 2 1 zeroTable) (1 ∷ 0 ∷ 0 ∷ 0 ∷ [])
+    ∷ states (answerFor One 2 2 zeroTable) (3 ∷ 0 ∷ 0 ∷ 0 ∷ [])
     -- "one product, 0 literals"
-    ∷ states (costOf 2 0 oneTable) (1 ∷ 0 ∷ [])
-    ∷ states (costOf 2 1 oneTable) (1 ∷ 0 ∷ [])
-    ∷ states (costOf 2 2 oneTable) (1 ∷ 0 ∷ [])
+    ∷ states (costOf One 2 0 oneTable) (1 ∷ 0 ∷ [])
+    ∷ states (costOf One 2 1 oneTable) (1 ∷ 0 ∷ [])
+    ∷ states (costOf One 2 2 oneTable) (1 ∷ 0 ∷ [])
     -- "n = 1, only point 0 on, k = 0: i = 1, 1 product, 1 literal", and M = 0
-    ∷ states (answerFor 1 0 pointTable) (0 ∷ 1 ∷ 1 ∷ 1 ∷ [])
+    ∷ states (answerFor One 1 0 pointTable) (0 ∷ 1 ∷ 1 ∷ 1 ∷ [])
     -- "k = 1 costs 2 products, 3 literals; k = 0 and k = 2 cost 3 and 3"
-    ∷ states (costOf 2 1 withoutTable) (2 ∷ 3 ∷ [])
-    ∷ states (costOf 2 0 withoutTable) (3 ∷ 3 ∷ [])
-    ∷ states (costOf 2 2 withoutTable) (3 ∷ 3 ∷ [])
+    ∷ states (costOf One 2 1 withoutTable) (2 ∷ 3 ∷ [])
+    ∷ states (costOf One 2 0 withoutTable) (3 ∷ 3 ∷ [])
+    ∷ states (costOf One 2 2 withoutTable) (3 ∷ 3 ∷ [])
     -- `form 2 2 1 1 2 2 2`
-    ∷ states (answerFor 2 1 printedTable) (1 ∷ 2 ∷ 2 ∷ 2 ∷ [])
+    ∷ states (answerFor One 2 1 printedTable) (1 ∷ 2 ∷ 2 ∷ 2 ∷ [])
     -- the printed example, from its text to its listing, byte for byte
     ∷ states (printedOf printedText) (bytes printedListing)
     -- likewise all zero at k = 2, all one at k = 0, and n = 1 with only point 0 on
@@ -278,20 +278,20 @@ markedDesigns =
     ∷ states (kindFor 2 zeroTable) (bytes "SS" ++ 0 ∷ 0 ∷ [])
     -- x2 is best taken the Shannon way, as dear as k = 1
     ∷ states (kindFor 2 splitTable) (bytes "SP" ++ 2 ∷ 3 ∷ [])
-    ∷ states (costOf 2 1 splitTable) (2 ∷ 3 ∷ [])
+    ∷ states (costOf One 2 1 splitTable) (2 ∷ 3 ∷ [])
     -- x2, which does not matter, the positive Davio way; of the letters of x1, of which S and P cost alike, S comes first
     ∷ states (kindFor 2 plainTable) (bytes "PS" ++ 1 ∷ 1 ∷ [])
     -- both inputs of OR the negative Davio way
     ∷ states (kindFor 2 orTable) (bytes "NN" ++ 2 ∷ 2 ∷ [])
     -- two addresses cost 2 and 6 with `K`, and at least 4 products with each k
     ∷ states (kindFor 3 endsTable) (bytes "SSS" ++ 2 ∷ 6 ∷ [])
-    ∷ states (costOf 3 0 endsTable) (5 ∷ 10 ∷ [])
-    ∷ states (costOf 3 1 endsTable) (4 ∷ 9 ∷ [])
-    ∷ states (costOf 3 2 endsTable) (4 ∷ 9 ∷ [])
-    ∷ states (costOf 3 3 endsTable) (5 ∷ 10 ∷ [])
+    ∷ states (costOf One 3 0 endsTable) (5 ∷ 10 ∷ [])
+    ∷ states (costOf One 3 1 endsTable) (4 ∷ 9 ∷ [])
+    ∷ states (costOf One 3 2 endsTable) (4 ∷ 9 ∷ [])
+    ∷ states (costOf One 3 3 endsTable) (5 ∷ 10 ∷ [])
     -- exactly one of three inputs costs 3 and 7 with `K`, and 3 and 6 with k = 2
     ∷ states (kindFor 3 oneOfThreeTable) (bytes "SNN" ++ 3 ∷ 7 ∷ [])
-    ∷ states (costOf 3 2 oneOfThreeTable) (3 ∷ 6 ∷ [])
+    ∷ states (costOf One 3 2 oneOfThreeTable) (3 ∷ 6 ∷ [])
     -- a text with `K`, from its text to its listing, byte for byte, and what the listing says
     ∷ states (meaningOf splitText) (accepted One 2 2 Kronecker (splitTable ++ replicate 252 0))
     ∷ states (printedOf splitText) (bytes splitListing)
