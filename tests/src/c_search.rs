@@ -49,6 +49,7 @@ pub fn minimise(
 mod tests {
     use crate::class::least;
     use crate::evaluator::places;
+    use crate::family::Family;
     use crate::seeded::Seeded;
     use crate::seeded::tables::any_table;
 
@@ -61,7 +62,7 @@ mod tests {
             let table = any_table(&mut seeded, n, m);
             let (mut coefficients, mut blocks) = (vec![0; places(n)], vec![0; places(n - k)]);
             super::minimise(n, m, k, &table, &mut coefficients, &mut blocks, &mut [0; 6]);
-            let wanted = least(n, k, &table);
+            let wanted = least(Family::One, n, k, &table);
             assert_eq!(coefficients, wanted.coefficients);
             assert!(blocks.iter().map(|&phi| usize::from(phi)).eq(wanted.member.blocks));
         }

@@ -2,10 +2,11 @@
 //! length in decimal digits, and in its `stdout`, with the listing of each text or its line `refused`,
 //! number, line. Both come from the evaluator.
 
+use crate::family::Family;
 use crate::marked::{ACCEPTED, DESIGNS, Marked, REFUSED, bytes, kronecker};
 use crate::seeded::Seeded;
 use crate::seeded::tables::{any_table, longest_listing_table, random_table};
-use crate::seeded::texts::{damaged_text, kronecker_text, sound_text, with_k_somewhere};
+use crate::seeded::texts::{damaged_text, kronecker_text, sound_text_of, with_k_somewhere};
 use crate::text::{Design, printed};
 
 /// The two files of the program, and how many texts they hold.
@@ -59,7 +60,7 @@ fn sound_texts(seeded: &mut Seeded) -> Vec<Vec<u8>> {
 
 fn damaged_texts(seeded: &mut Seeded) -> Vec<Vec<u8>> {
     let damaged = |_| {
-        let (_, text) = sound_text(seeded, 4);
+        let (_, text) = sound_text_of(seeded, Family::One, 4);
         damaged_text(seeded, &text)
     };
     (0..250).map(damaged).collect()
