@@ -5,8 +5,8 @@
  *     rt staticlib capi                                          writes target/staticlib/libcapi.a
  *     cc -Iinclude program.c target/staticlib/libcapi.a          links it; no other library is needed
  *
- * docs/GUIDE.md says what a table text, a listing, the numbers n, m, k, M and i and the kinds of k are, docs/SPECIFICATION.md gives the
- * exact rules, and docs/CONTRACTS.md what is proved of each call. examples/compile.c is a whole program.
+ * docs/GUIDE.md says what a table text, a listing, the numbers n, m, k, M and i, the kinds of k and the two families of parts are,
+ * docs/SPECIFICATION.md gives the exact rules, and docs/CONTRACTS.md what is proved of each call. examples/compile.c is a whole program.
  *
  * Buffers. A buffer is passed as a pointer to its first byte and then its length in bytes. The caller sees to three things, which no call
  * can check:
@@ -40,13 +40,13 @@ extern "C" {
 #define MIPALDOZ_MOST_MIXED 3         /* where k is a number it is 0 to 3, and at most n */
 #define MIPALDOZ_TABLE_BYTES 256      /* the table that the reading call fills; also 2^n at the largest n */
 #define MIPALDOZ_LONGEST_LISTING 5919 /* bytes: an output buffer of this length is never refused */
-#define MIPALDOZ_LONGEST_TEXT 4002    /* bytes: a longer text is never accepted */
+#define MIPALDOZ_LONGEST_TEXT 4003    /* bytes: a longer text is never accepted */
 
 /* How many numbers the answer of each call has. */
 #define MIPALDOZ_FORWARD_ANSWER 2
 #define MIPALDOZ_BACKWARD_ANSWER 2
 #define MIPALDOZ_MINIMISE_ANSWER 6
-#define MIPALDOZ_READ_ANSWER 6
+#define MIPALDOZ_READ_ANSWER 7
 #define MIPALDOZ_COMPILE_ANSWER 3
 #define MIPALDOZ_CHECK_ANSWER 4
 
@@ -65,6 +65,7 @@ enum mipaldoz_answer {
     MIPALDOZ_OUTPUTS = 3,      /* m */
     MIPALDOZ_MIXED_INPUTS = 4, /* k; 1 where the text has `-`, and 0 where it has `K` */
     MIPALDOZ_KIND = 5,         /* the kind of k: enum mipaldoz_kind; 0 under a refusal */
+    MIPALDOZ_FAMILY = 6,       /* the family of parts: enum mipaldoz_family; 0 under a refusal */
     /* of mipaldoz_compile */
     MIPALDOZ_LENGTH = 2, /* the length of the listing, in bytes */
     /* of mipaldoz_check */
@@ -78,6 +79,12 @@ enum mipaldoz_kind {
     MIPALDOZ_KIND_KRONECKER = 2 /* the text has `K`: Kronecker expansions */
 };
 
+/* The families of parts. */
+enum mipaldoz_family {
+    MIPALDOZ_FAMILY_ONE = 1, /* the text begins with `table`: fewest products, then fewest literals */
+    MIPALDOZ_FAMILY_TWO = 2  /* the text begins with `table2`: least charge, 4 x products + literals, then fewest products */
+};
+
 /* What the check says of a listing that is not refused. */
 enum mipaldoz_outcome {
     MIPALDOZ_SAME = 1,        /* it is a member's listing, and gives every output at every point */
@@ -88,7 +95,7 @@ enum mipaldoz_outcome {
 /* Why a call declines. */
 enum mipaldoz_refusal {
     MIPALDOZ_CARRIED_OUT = 0,
-    MIPALDOZ_BAD_LINE = 1,      /* a line of the text breaks its grammar */
+    MIPALDOZ_BAD_LINE = 1,      /* a line of the text breaks its grammar, as `K` with `table2` does */
     MIPALDOZ_BAD_INPUTS = 2,    /* n is not 1 to 8 */
     MIPALDOZ_BAD_OUTPUTS = 3,   /* m is not 1 to 8 */
     MIPALDOZ_BAD_MIXED = 4,     /* k is a number above 3 or above n */
@@ -99,8 +106,8 @@ enum mipaldoz_refusal {
     MIPALDOZ_BAD_BYTE = 9,      /* a byte of the table or of the coefficients has a bit at m or above set */
     MIPALDOZ_SHORT_OUTPUT = 10, /* the output buffer is shorter than the listing */
     MIPALDOZ_BAD_LISTING = 11,  /* a line of the listing is broken, its t is not above the one before, or the listing ends wrongly */
-    MIPALDOZ_OTHER_LISTING = 12 /* the listing's n, m or k is not the table's, or its counts are not those of its lines; beside a `K` table,
-                                   its first line is a `form` line */
+    MIPALDOZ_OTHER_LISTING = 12 /* the listing's family, n, m or k is not the table's, or its counts are not those of its lines; beside a
+                                   `K` table, its first line is a `form` or `form2` line */
 };
 
 /*
@@ -136,7 +143,8 @@ void mipaldoz_backward(size_t n, size_t m, size_t w,
 
 /*
  * Takes a table and finds the member of the class with k mixed inputs that gives it with fewest products, then fewest literals, then least
- * M, then least i, then in each block the least block polarity.
+ * M, then least i, then in each block the least block polarity. This is the order of family one; a table of family two is minimised by
+ * mipaldoz_compile.
  *
  *   n, m, k        inputs, outputs, mixed inputs
  *   table          2^n bytes: bit o of byte p is output o at point p, whose bit 0 is x1; bits m to 7 are 0
@@ -159,21 +167,24 @@ void mipaldoz_minimise(size_t n, size_t m, size_t k,
  *
  *   text           any bytes, any length; no zero byte ends it
  *   table          256 bytes (MIPALDOZ_TABLE_BYTES) whatever n is, all filled: the table, then 0 from 2^n on
- *   answer         number, line, n, m, k, the kind of k (enum mipaldoz_kind)
+ *   answer         number, line, n, m, k, the kind of k (enum mipaldoz_kind), the family (enum mipaldoz_family)
  *
- * Refusals: first the text is judged line by line, and its first bad line is the line of the refusal. On line 1 the order is 1, 2, 3, 4, and
- * with `K` for k 4 cannot apply; on a later line 1 comes before 5. The line of 6 is the line that was expected, or the one after `end`. A
- * text that is accepted is then refused by 8, line 0, where `table` has another length.
+ * Refusals: first the text is judged line by line, and its first bad line is the line of the refusal. On line 1 the order is 1, 2, 3, 4. `K`
+ * for k is for texts that begin with `table`, and 4 cannot apply to it; with `table2` it is 1, whatever n and m are. On a later line 1 comes
+ * before 5. The line of 6 is the line that was expected, or the one after `end`. A text that is accepted is then refused by 8, line 0, where
+ * `table` has another length.
  */
 void mipaldoz_read(const uint8_t *text, size_t text_length,
                    uint8_t *table, size_t table_length,
                    uint64_t answer[MIPALDOZ_READ_ANSWER]);
 
 /*
- * Reads a table text, finds the cheapest expansion and writes its listing into the front of `output`. Where k is a number the expansion is
- * the one that mipaldoz_minimise finds, and the listing begins with `form`. Where the text has `K` it is the cheapest Kronecker expansion:
- * fewest products, then fewest literals, then the letters that come first from xn down, S before P before N; the listing begins with `kron`.
- * Bytes past the listing keep what they held, and no zero byte is written after it.
+ * Reads a table text, finds the cheapest expansion and writes its listing into the front of `output`. Where the text begins with `table` and
+ * k is a number the expansion is the one that mipaldoz_minimise finds, and the listing begins with `form`. Where the text begins with
+ * `table2` it is the member of the class with the least charge, 4 x products + literals, then fewest products, then least M, then least i,
+ * then in each block the least block polarity; the listing begins with `form2`. Where the text has `K` it is the cheapest Kronecker
+ * expansion: fewest products, then fewest literals, then the letters that come first from xn down, S before P before N; the listing begins
+ * with `kron`. Bytes past the listing keep what they held, and no zero byte is written after it.
  *
  *   text           any bytes, any length; no zero byte ends it
  *   output         as long as the listing or longer; MIPALDOZ_LONGEST_LISTING bytes are enough for every text
@@ -197,9 +208,10 @@ void mipaldoz_compile(const uint8_t *text, size_t text_length,
  * point at which the listing's own lines do not give the table's outputs; else MIPALDOZ_SAME, whether the listing is the cheapest or not.
  *
  * Refusals, the first that applies: the text as in mipaldoz_read, 1 to 6 with the line in the text. Then line 1 of the listing: 11 where it
- * is broken, 12 where its n, m or k is not the table's. Then its later lines, one by one: 11 with the line. Then its counts: 12, line 1.
- * Where the k of the text is `K`, a `form` listing is refused by 12 and any other by 11, each with line 1. A `kron` listing is refused by 11,
- * line 1, beside every text that is accepted.
+ * is broken, 12 where its family, n, m or k is not the table's: a `form` listing goes with a text that begins with `table`, a `form2` listing
+ * with one that begins with `table2`. Then its later lines, one by one: 11 with the line. Then its counts: 12, line 1. Where the k of the
+ * text is `K`, a `form` or `form2` listing is refused by 12 and any other by 11, each with line 1. A `kron` listing is refused by 11, line 1,
+ * beside every text that is accepted.
  */
 void mipaldoz_check(const uint8_t *text, size_t text_length,
                     const uint8_t *listing, size_t listing_length,

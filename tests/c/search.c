@@ -1,11 +1,20 @@
-/* The search by lanes, to time the minimising call beside it: the same method as crates/search, in C. Byte
-   o of word j is output o of block j, its bits the places of the block. rows[g] has the coefficients of g
-   under the eight polarities, a byte for each; it is computed once, by block_search_prepare. */
+/* The search by lanes, to time the minimising call and the text call beside it: the same method as
+   crates/search, in C. Byte o of word j is output o of block j, its bits the places of the block. rows[g] has
+   the coefficients of g under the eight polarities, a byte for each; it is computed once, by
+   block_search_prepare.
+
+   A family is what a product and a literal weigh, so that the sum orders expansions as the family does: family
+   one by products, then literals; family two by 4 x products + literals, then products. */
 
 #include <stddef.h>
 #include <stdint.h>
 
-enum { INPUTS = 8, OUTPUTS = 8, FUNCTIONS = 256, POLARITIES = 8, PLACES = 8, PRODUCT = 4096 };
+enum { INPUTS = 8, OUTPUTS = 8, FUNCTIONS = 256, POLARITIES = 8, PLACES = 8 };
+
+enum family { FAMILY_ONE = 1, FAMILY_TWO = 2 };
+
+/* Family one: a product 4096, a literal 1. Family two: a unit of the charge 512, and 1 for each product. */
+enum { PRODUCT = 4096, UNIT = 512 };
 
 static const uint8_t literals[8] = {0, 1, 1, 2, 1, 2, 2, 3};
 
@@ -89,24 +98,45 @@ static void expand(struct split *s, size_t n, unsigned mixed, const uint8_t *tab
         half_step(s, 1, input);
 }
 
-/* The least charge of a block, and the least polarity that has it. */
-static uint32_t cheapest(const struct split *s, unsigned j, uint8_t *chosen)
+/* What products and literals weigh. */
+static inline uint32_t weigh(enum family family, uint32_t products, uint32_t count)
 {
+    return family == FAMILY_ONE ? products * PRODUCT + count : (4 * products + count) * UNIT + products;
+}
+
+/* Products and literals of a sum of weights. */
+static void counts(enum family family, uint32_t weight, uint64_t *products, uint64_t *count)
+{
+    *products = family == FAMILY_ONE ? weight / PRODUCT : weight % UNIT;
+    *count = family == FAMILY_ONE ? weight % PRODUCT : weight / UNIT - 4 * *products;
+}
+
+/* What the polarities of a block are compared by: 16 for each product and 1 for each literal within the mixed
+   inputs. In family one this is their order; in family two the literals outside weigh in it. */
+static inline uint32_t rank(enum family family, uint32_t sum, unsigned outside)
+{
+    return family == FAMILY_ONE ? sum : weigh(family, sum >> 4, (sum >> 4) * outside + (sum & 15));
+}
+
+/* The least weight of a block, and the least polarity that has it. */
+static inline uint32_t cheapest(const struct split *s, enum family family, unsigned j, uint8_t *chosen)
+{
+    const unsigned outside = ones(j);
     uint64_t used = 0, sums = 0;
     for (unsigned o = 0; o < OUTPUTS; o++)
         used |= rows[s->lanes[j] >> (8 * o) & 255];
     for (unsigned t = 0; t < PLACES; t++)
         sums += (used >> t & 0x0101010101010101u) * (16u + literals[t]);
-    uint32_t least = sums & 255;
+    uint32_t least = rank(family, sums & 255, outside);
     *chosen = 0;
     for (unsigned phi = 1; phi < 1u << s->inside; phi++) {
-        uint32_t sum = sums >> (8 * phi) & 255;
-        if (sum < least) {
-            least = sum;
+        uint32_t next = rank(family, sums >> (8 * phi) & 255, outside);
+        if (next < least) {
+            least = next;
             *chosen = (uint8_t)phi;
         }
     }
-    return (least >> 4) * (PRODUCT + ones(j)) + (least & 15);
+    return family == FAMILY_ONE ? weigh(family, least >> 4, (least >> 4) * outside + (least & 15)) : least;
 }
 
 static void write_coefficients(const struct split *s, const uint8_t *blocks, uint8_t *coefficients)
@@ -120,9 +150,8 @@ static void write_coefficients(const struct split *s, const uint8_t *blocks, uin
         }
 }
 
-/* The least member that gives a sound table. The answer is number, line, M, i, products, literals. */
-void block_search(size_t n, size_t k, const uint8_t *table, uint8_t *coefficients, uint8_t *blocks,
-                  uint64_t *answer)
+static inline void search(enum family family, size_t n, size_t k, const uint8_t *table,
+                          uint8_t *coefficients, uint8_t *blocks, uint64_t *answer)
 {
     struct split s;
     uint8_t chosen;
@@ -135,7 +164,7 @@ void block_search(size_t n, size_t k, const uint8_t *table, uint8_t *coefficient
         for (unsigned polarity = 0; polarity < s.blocks; polarity++) {
             uint32_t total = 0;
             for (unsigned j = 0; j < s.blocks; j++)
-                total += cheapest(&s, j, &chosen);
+                total += cheapest(&s, family, j, &chosen);
             if (total < least) {
                 least = total;
                 best_mixed = mixed;
@@ -148,11 +177,21 @@ void block_search(size_t n, size_t k, const uint8_t *table, uint8_t *coefficient
     expand(&s, n, best_mixed, table);
     turn(&s, best_polarity);
     for (unsigned j = 0; j < s.blocks; j++)
-        cheapest(&s, j, &blocks[j]);
+        cheapest(&s, family, j, &blocks[j]);
     write_coefficients(&s, blocks, coefficients);
     answer[0] = answer[1] = 0;
     answer[2] = best_mixed;
     answer[3] = spread(best_polarity, s.rest);
-    answer[4] = least / PRODUCT;
-    answer[5] = least % PRODUCT;
+    counts(family, least, &answer[4], &answer[5]);
+}
+
+/* The least member of the family that gives a sound table. The answer is number, line, M, i, products,
+   literals. The family is a constant in each of the two. */
+void block_search(size_t family, size_t n, size_t k, const uint8_t *table, uint8_t *coefficients,
+                  uint8_t *blocks, uint64_t *answer)
+{
+    if (family == FAMILY_ONE)
+        search(FAMILY_ONE, n, k, table, coefficients, blocks, answer);
+    else
+        search(FAMILY_TWO, n, k, table, coefficients, blocks, answer);
 }

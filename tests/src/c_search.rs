@@ -1,11 +1,13 @@
 //! The search in C that the benchmarks time (`c/search.c`).
 
 use crate::calls::MinimiseAnswer;
+use crate::family::Family;
 use std::sync::Once;
 
 unsafe extern "C" {
     fn block_search_prepare();
     fn block_search(
+        family: usize,
         n: usize,
         k: usize,
         table: *const u8,
@@ -28,6 +30,19 @@ pub fn minimise(
     blocks: &mut [u8],
     answer: &mut MinimiseAnswer,
 ) {
+    minimise_for(Family::One, [n, m, k], table, coefficients, blocks, answer);
+}
+
+/// The same for a family, with n, m and k.
+#[inline]
+pub fn minimise_for(
+    family: Family,
+    [n, m, k]: [usize; 3],
+    table: &[u8],
+    coefficients: &mut [u8],
+    blocks: &mut [u8],
+    answer: &mut MinimiseAnswer,
+) {
     // SAFETY: the tables of the C code are written once, before they are read.
     PREPARED.call_once(|| unsafe { block_search_prepare() });
     assert!((1..=8).contains(&n) && (1..=8).contains(&m) && k <= n.min(3));
@@ -35,6 +50,7 @@ pub fn minimise(
     // SAFETY: the buffers have the lengths that the C code reads and writes.
     unsafe {
         block_search(
+            family.number() as usize,
             n,
             k,
             table.as_ptr(),
@@ -49,8 +65,27 @@ pub fn minimise(
 mod tests {
     use crate::class::least;
     use crate::evaluator::places;
+    use crate::family::Family;
+    use crate::marked::families::{COMPARED, Compared, INPUTS, OUTPUTS};
     use crate::seeded::Seeded;
     use crate::seeded::tables::any_table;
+
+    /// The C code finds what the evaluator does, for both families.
+    fn agree(sizes: [usize; 3], table: &[u8]) {
+        let [n, _, k] = sizes;
+        for family in Family::ALL {
+            let (mut coefficients, mut blocks) = (vec![0; places(n)], vec![0; places(n - k)]);
+            let mut answer = [0; 6];
+            let filled = (&mut coefficients, &mut blocks);
+            super::minimise_for(family, sizes, table, filled.0, filled.1, &mut answer);
+            let wanted = least(family, n, k, table);
+            let (member, cost) = (&wanted.member, wanted.cost);
+            let figures = [member.mixed, member.fixed, cost.products, cost.literals];
+            assert_eq!(answer[2..], figures.map(|number| number as u64));
+            assert_eq!(coefficients, wanted.coefficients);
+            assert!(blocks.iter().map(|&phi| usize::from(phi)).eq(member.blocks.iter().copied()));
+        }
+    }
 
     #[test]
     fn the_c_code_finds_the_least_expansion() {
@@ -58,12 +93,10 @@ mod tests {
         for round in 0..200 {
             let n = 1 + round % 6;
             let (m, k) = (seeded.within(1, 8), seeded.below(n.min(3) + 1));
-            let table = any_table(&mut seeded, n, m);
-            let (mut coefficients, mut blocks) = (vec![0; places(n)], vec![0; places(n - k)]);
-            super::minimise(n, m, k, &table, &mut coefficients, &mut blocks, &mut [0; 6]);
-            let wanted = least(n, k, &table);
-            assert_eq!(coefficients, wanted.coefficients);
-            assert!(blocks.iter().map(|&phi| usize::from(phi)).eq(wanted.member.blocks));
+            agree([n, m, k], &any_table(&mut seeded, n, m));
+        }
+        for Compared { k, table, .. } in COMPARED {
+            agree([INPUTS, OUTPUTS, k], table);
         }
     }
 }

@@ -141,14 +141,14 @@ pub fn minimise(
     }
 }
 
-/// The numbers of the reading call's answer: number, line, n, m, k, kind.
-pub type ReadAnswer = [u64; 6];
+/// The numbers of the reading call's answer: number, line, n, m, k, the kind of k, the family.
+pub type ReadAnswer = [u64; 7];
 
 /// The reading call: fills a table of 256 bytes from a table text.
 #[inline]
 pub fn read(text: &[u8], table: &mut [u8], answer: &mut ReadAnswer) {
     let lent = (table.as_mut_ptr(), table.len());
-    // SAFETY: each pointer goes with the length of its own slice, and the answer has its six places.
+    // SAFETY: each pointer goes with the length of its own slice, and the answer has its seven places.
     unsafe { mipaldoz_read(text.as_ptr(), text.len(), lent.0, lent.1, answer.as_mut_ptr()) }
 }
 

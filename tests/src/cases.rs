@@ -2,10 +2,14 @@
 //! length in decimal digits, and in its `stdout`, with the listing of each text or its line `refused`,
 //! number, line. Both come from the evaluator.
 
+use crate::family::Family;
+use crate::marked::families::{self, COMPARED, Compared, INPUTS, OUTPUTS};
 use crate::marked::{ACCEPTED, DESIGNS, Marked, REFUSED, bytes, kronecker};
 use crate::seeded::Seeded;
 use crate::seeded::tables::{any_table, longest_listing_table, random_table};
-use crate::seeded::texts::{damaged_text, kronecker_text, sound_text, with_k_somewhere};
+use crate::seeded::texts::{
+    damaged_text, kronecker_text, sound_text_of, with_k_somewhere, with_other_word,
+};
 use crate::text::{Design, printed};
 
 /// The two files of the program, and how many texts they hold.
@@ -20,7 +24,8 @@ impl Cases {
     pub fn written() -> Self {
         let mut seeded = Seeded::new(71);
         let block = [marked_texts(), sound_texts(&mut seeded), damaged_texts(&mut seeded)].concat();
-        let texts = [block, kronecker_texts(&mut Seeded::new(72))].concat();
+        let kronecker = kronecker_texts(&mut Seeded::new(72));
+        let texts = [block, kronecker, family_texts(&mut Seeded::new(73))].concat();
         let framed =
             |text: &Vec<u8>| [format!("{}\n", text.len()).into_bytes(), text.clone()].concat();
         Cases {
@@ -59,7 +64,7 @@ fn sound_texts(seeded: &mut Seeded) -> Vec<Vec<u8>> {
 
 fn damaged_texts(seeded: &mut Seeded) -> Vec<Vec<u8>> {
     let damaged = |_| {
-        let (_, text) = sound_text(seeded, 4);
+        let (_, text) = sound_text_of(seeded, Family::One, 4);
         damaged_text(seeded, &text)
     };
     (0..250).map(damaged).collect()
@@ -79,6 +84,36 @@ fn kronecker_texts(seeded: &mut Seeded) -> Vec<Vec<u8>> {
     for damage in [damaged_text, with_k_somewhere] {
         for _ in 0..60 {
             let (_, text) = kronecker_text(seeded, 4);
+            texts.push(damage(seeded, &text));
+        }
+    }
+    texts
+}
+
+/// Texts of family two: the marked ones, the designs on which the families or their ties choose differently in
+/// both families, the longest listing, one for every n and k, and damaged ones.
+fn family_texts(seeded: &mut Seeded) -> Vec<Vec<u8>> {
+    let accepted = families::ACCEPTED.iter().map(|(text, _)| bytes(text));
+    let refused = families::REFUSED.iter().map(|(text, _, _)| bytes(text));
+    let mut texts: Vec<Vec<u8>> = accepted.chain(refused).collect();
+    for Compared { k, table, .. } in COMPARED {
+        let design = Design::block(INPUTS, OUTPUTS, k, table.to_vec());
+        texts.extend(Family::ALL.map(|family| design.clone().of_family(family).text()));
+    }
+    let mut push = |n, m, k, table| {
+        texts.push(Design::block(n, m, k, table).of_family(Family::Two).text());
+    };
+    push(8, 8, 3, longest_listing_table());
+    for n in 1..=8usize {
+        for k in 0..=n.min(3) {
+            let m = seeded.within(1, 8);
+            push(n, m, k, any_table(seeded, n, m));
+        }
+    }
+    push(8, 8, 3, random_table(seeded, 8, 8));
+    for damage in [damaged_text, with_other_word, with_k_somewhere] {
+        for _ in 0..60 {
+            let (_, text) = sound_text_of(seeded, Family::Two, 4);
             texts.push(damage(seeded, &text));
         }
     }

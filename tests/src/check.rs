@@ -1,4 +1,4 @@
-//! The fitter's check, as document 02's W-201 and W-202 give it: a listing is judged beside its table text.
+//! The fitter's check, as document 02's W-201 to W-203 give it: a listing is judged beside its table text.
 
 use crate::calls::CheckAnswer;
 use crate::class::{Member, is_of_a_member};

@@ -1,5 +1,5 @@
-//! The class of expansions and its costs. The least member that gives a table is searched in two ways:
-//! over every member, and block by block.
+//! The class of expansions and its costs. The least member that gives a table, in the order of a family, is
+//! searched in two ways: over every member, and block by block.
 
 mod block_search;
 mod every_member;
@@ -63,8 +63,8 @@ pub fn is_of_a_member(n: usize, k: usize, mixed: usize, fixed: usize) -> bool {
     mixed_sets(n, k).any(|set| set == mixed) && fixed_polarities(n, mixed).any(|w| w == fixed)
 }
 
-/// What coefficients cost. Fewer products come first, then fewer literals.
-#[derive(Clone, Copy, Debug, Default, PartialEq, Eq, PartialOrd, Ord)]
+/// What coefficients cost. A family compares costs (`Family::order`).
+#[derive(Clone, Copy, Debug, Default, PartialEq, Eq)]
 pub struct Cost {
     pub products: usize,
     pub literals: usize,
@@ -145,15 +145,22 @@ pub fn judge_minimise(
 #[cfg(test)]
 mod tests {
     use super::*;
+    use crate::family::Family;
     use crate::seeded::Seeded;
     use crate::seeded::listings::any_member;
     use crate::seeded::tables::{any_table, every_table};
 
-    /// The two searches agree, and what they find gives the table.
+    /// The two searches agree for both families, and what they find gives the table.
     fn agree(n: usize, k: usize, class: &Class, table: &[u8]) {
-        let found = least(n, k, table);
-        assert_eq!(found, class.least(table), "n = {n}, k = {k}, {table:?}");
-        assert_eq!(found.table(n), table);
+        for family in Family::ALL {
+            let found = least(family, n, k, table);
+            assert_eq!(
+                found,
+                class.least(family, table),
+                "{family:?}, n = {n}, k = {k}, {table:?}"
+            );
+            assert_eq!(found.table(n), table);
+        }
     }
 
     #[test]
@@ -198,7 +205,9 @@ mod tests {
         for n in 5..=8 {
             for k in 0..=3 {
                 let table = any_table(&mut seeded, n, 8);
-                assert_eq!(least(n, k, &table).table(n), table);
+                for family in Family::ALL {
+                    assert_eq!(least(family, n, k, &table).table(n), table);
+                }
             }
         }
     }

@@ -10,6 +10,7 @@ pub use three_ways::least;
 
 use crate::class::Cost;
 use crate::evaluator::{bit, inputs, places};
+use crate::family::Family;
 use crate::text::products::{Product, counted, value};
 
 /// How an input is taken, in the order of equal costs.
@@ -58,6 +59,12 @@ pub fn every_letters(n: usize) -> Vec<Letters> {
 pub fn cube(letters: &[Letter], t: usize) -> Vec<u8> {
     let from_xn_down = inputs(letters.len()).rev();
     from_xn_down.zip(letters).map(|(i, letter)| letter.character(bit(t, i))).collect()
+}
+
+/// What expansions are compared by: products, literals, letters from xn down. They are of family one: "`K`
+/// is for `table` only".
+pub fn order(cost: Cost, letters: &Letters) -> ([usize; 2], Letters) {
+    (Family::One.order(cost), letters.clone())
 }
 
 /// A kind with coefficients and what they cost.
@@ -147,7 +154,8 @@ mod tests {
                     let rival = Expansion::new(letters.clone(), coefficients);
                     let table = rival.table();
                     let first = least(n, &table);
-                    assert!((first.cost, first.letters) <= (rival.cost, rival.letters));
+                    let orders = [first, rival].map(|e| order(e.cost, &e.letters));
+                    assert!(orders[0] <= orders[1]);
                     given.insert(table);
                 }
                 assert_eq!(given.len(), every_table(n, 1).count(), "each table is given once");

@@ -9,6 +9,7 @@ pub mod check;
 pub mod class;
 pub mod elimination;
 pub mod evaluator;
+pub mod family;
 pub mod kronecker;
 pub mod lent;
 pub mod marked;

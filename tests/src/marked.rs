@@ -1,6 +1,7 @@
 //! Designs and texts whose answers are written down by hand: document 01's own, the ones that tell a
 //! misreading of the method from the method, and texts on both sides of each refusal.
 
+pub mod families;
 pub mod kronecker;
 pub mod pairs;
 
@@ -69,7 +70,7 @@ pub fn bytes(written: &[u8]) -> Vec<u8> {
 /// Document 01's example.
 pub const EXAMPLE: &[u8] = b"table 2 2 1\non 0 01\non 1 10\non 2 10\non 3 10\nend\n";
 
-/// Texts of the block class that are accepted, each with its listing.
+/// Texts of the block class and of family one that are accepted, each with its listing.
 pub const ACCEPTED: [(&[u8], &[u8]); 15] = [
     (EXAMPLE, b"form 2 2 1 1 2 2 2\nterm -- 10\nterm 00 11\nend\n"),
     (b"table 2 1 0\nend\n", b"form 2 1 0 0 0 0 0\nend\n"),
@@ -124,7 +125,7 @@ pub const REFUSED: [(&[u8], u64, u64); 87] = [
     (b"Table 2 2 1\nend\n", 1, 1),
     (b"tabl 2 2 1\nend\n", 1, 1),
     (b"tables 2 2 1\nend\n", 1, 1),
-    (b"table2 2 2 1\nend\n", 1, 1),
+    (b"table3 2 2 1\nend\n", 1, 1),
     (b"table 10 2 1\nend\n", 1, 1),
     (b"table 02 2 1\nend\n", 1, 1),
     (b"table 2 08 1\nend\n", 1, 1),
@@ -201,12 +202,12 @@ pub const REFUSED: [(&[u8], u64, u64); 87] = [
 
 /// Every text that is accepted, with its listing.
 pub fn accepted() -> impl Iterator<Item = (&'static [u8], &'static [u8])> {
-    chain(ACCEPTED, kronecker::ACCEPTED)
+    chain(ACCEPTED, kronecker::ACCEPTED).chain(families::ACCEPTED)
 }
 
 /// Every text that is refused, with the refusal's number and line.
 pub fn refused() -> impl Iterator<Item = (&'static [u8], u64, u64)> {
-    chain(REFUSED, kronecker::REFUSED)
+    chain(REFUSED, kronecker::REFUSED).chain(families::REFUSED)
 }
 
 #[cfg(test)]
@@ -214,16 +215,17 @@ mod tests {
     use super::*;
     use crate::class::{Class, least};
     use crate::evaluator::Refusal;
+    use crate::family::Family;
     use crate::text::compile;
 
     #[test]
     fn designs() {
         for Marked { n, m: _, k, table, figures } in DESIGNS {
-            let found = least(n, k, table);
+            let found = least(Family::One, n, k, table);
             let (member, cost) = (&found.member, found.cost);
             let numbers = [member.mixed, member.fixed, cost.products, cost.literals];
             assert_eq!(numbers.map(|number| number as u64), figures, "{table:?}");
-            assert_eq!(found, Class::new(n, k).least(table));
+            assert_eq!(found, Class::new(n, k).least(Family::One, table));
         }
     }
 

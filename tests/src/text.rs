@@ -5,7 +5,9 @@ pub mod kron;
 pub mod listing;
 pub mod products;
 
+use crate::calls::ReadAnswer;
 use crate::evaluator::{Refusal, judge_lengths, places};
+use crate::family::Family;
 use crate::{class, kronecker};
 use fields::{Line, Lines, outputs_field, read_digit, read_number, read_outputs};
 use kron::KronListing;
@@ -50,6 +52,7 @@ impl Kind {
 /// What a table text says.
 #[derive(Clone, Debug, PartialEq, Eq)]
 pub struct Design {
+    pub family: Family,
     pub n: usize,
     pub m: usize,
     pub kind: Kind,
@@ -57,14 +60,19 @@ pub struct Design {
 }
 
 impl Design {
-    /// A design for the block class with k mixed inputs.
+    /// A design of family one for the block class with k mixed inputs.
     pub fn block(n: usize, m: usize, k: usize, table: Vec<u8>) -> Self {
-        Design { n, m, kind: Kind::Block(k), table }
+        Design { family: Family::One, n, m, kind: Kind::Block(k), table }
+    }
+
+    /// The same design for another family.
+    pub fn of_family(self, family: Family) -> Self {
+        Design { family, ..self }
     }
 
     /// A design for the Kronecker expansions.
     pub fn kronecker(n: usize, m: usize, table: Vec<u8>) -> Self {
-        Design { n, m, kind: Kind::Kronecker, table }
+        Design { family: Family::One, n, m, kind: Kind::Kronecker, table }
     }
 
     /// The number of mixed inputs of a design for the block class.
@@ -88,7 +96,8 @@ impl Design {
             _ => format!("on\t{p}\t{}\n", outputs_field(self.m, byte)),
         };
         let lines: String = self.table.iter().enumerate().map(on).collect();
-        format!("table\t{}\t{}\t{k}\n{lines}end\n", self.n, self.m).into_bytes()
+        let word = self.family.table_word();
+        format!("{word}\t{}\t{}\t{k}\n{lines}end\n", self.n, self.m).into_bytes()
     }
 }
 
@@ -116,13 +125,9 @@ pub fn read(text: &[u8]) -> Result<Design, Refusal> {
     }
 }
 
-/// `table`, n, m, k, judged in the order 1, 2, 3, 4.
+/// `table` or `table2`, n, m, k, judged in the order 1, 2, 3, 4.
 fn read_first(line: &Line) -> Result<Design, Refusal> {
-    let sizes = match line.fields[..] {
-        [b"table", n, m, k] => read_sizes(n, m, k),
-        _ => None,
-    };
-    let (n, m, kind) = sizes.ok_or(line.refusal(1))?;
+    let (family, n, m, kind) = read_sizes(line).ok_or(line.refusal(1))?;
     if !(1..=8).contains(&n) {
         return Err(line.refusal(2));
     }
@@ -134,11 +139,16 @@ fn read_first(line: &Line) -> Result<Design, Refusal> {
     {
         return Err(line.refusal(4));
     }
-    Ok(Design { n, m, kind, table: vec![0; places(n)] })
+    Ok(Design { family, n, m, kind, table: vec![0; places(n)] })
 }
 
-fn read_sizes(n: &[u8], m: &[u8], k: &[u8]) -> Option<(usize, usize, Kind)> {
-    Some((read_digit(n)?, read_digit(m)?, Kind::read(k)?))
+/// The fields of the first line. "`K` is for `table` only; with `table2` it is refusal 1", whatever n and m
+/// are.
+fn read_sizes(line: &Line) -> Option<(Family, usize, usize, Kind)> {
+    let [word, n, m, k] = line.fields[..] else { return None };
+    let family = Family::of_word(Family::table_word, word)?;
+    let (n, m, kind) = (read_digit(n)?, read_digit(m)?, Kind::read(k)?);
+    ((family, kind) != (Family::Two, Kind::Kronecker)).then_some((family, n, m, kind))
 }
 
 /// `on`, point, outputs.
@@ -153,7 +163,10 @@ fn read_on(line: &Line, m: usize) -> Option<(usize, u8)> {
 pub fn compile(text: &[u8]) -> Result<Vec<u8>, Refusal> {
     let design = read(text)?;
     Ok(match design.kind {
-        Kind::Block(k) => Listing::of(&design, &class::least(design.n, k, &design.table)).bytes(),
+        Kind::Block(k) => {
+            let expansion = class::least(design.family, design.n, k, &design.table);
+            Listing::of(&design, &expansion).bytes()
+        }
         Kind::Kronecker => {
             KronListing::of(design.m, &kronecker::least(design.n, &design.table)).bytes()
         }
@@ -177,6 +190,17 @@ pub fn judge_read(text: &[u8], table_length: usize) -> Result<Design, Refusal> {
     Ok(design)
 }
 
+/// The numbers of the reading call's answer: number, line, n, m, k, the kind of k, the family.
+pub fn read_answer(judged: &Result<Design, Refusal>) -> ReadAnswer {
+    match judged {
+        Ok(Design { family, n, m, kind, .. }) => {
+            let [k, kind] = kind.numbers();
+            [0, 0, *n as u64, *m as u64, k, kind, family.number()]
+        }
+        Err(Refusal { number, line }) => [*number, *line, 0, 0, 0, 0, 0],
+    }
+}
+
 /// Refusal 10, of the text call: after 1 to 6, where the output buffer is shorter than the listing.
 pub fn judge_output(listing: &[u8], output_length: usize) -> Result<&[u8], Refusal> {
     if output_length < listing.len() {
@@ -192,7 +216,9 @@ mod tests {
 
     #[test]
     fn a_text_is_written_as_it_was_read() {
-        let text = bytes(EXAMPLE);
-        assert_eq!(read(&text).map(|design| design.text()), Ok(text));
+        for text in [EXAMPLE, b"table2 2 2 1\non 0 01\nend\n", b"table 2 2 K\nend\n"] {
+            let text = bytes(text);
+            assert_eq!(read(&text).map(|design| design.text()), Ok(text));
+        }
     }
 }

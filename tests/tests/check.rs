@@ -1,12 +1,14 @@
-//! The fitter's check against the evaluator's: marked pairs, drawn pairs of several families, and every
-//! small change of a listing.
+//! The fitter's check against the evaluator's: marked pairs, drawn pairs of several sorts, and every small
+//! change of a listing.
 
 use outside_cases::calls;
 use outside_cases::check::{self, Verdict};
 use outside_cases::evaluator::{Refusal, places};
+use outside_cases::family::Family;
 use outside_cases::lent::{Lent, answer};
+use outside_cases::marked::families::{EXAMPLE_LISTING_TWO, EXAMPLE_TWO};
 use outside_cases::marked::pairs::{self, EXAMPLE_LISTING};
-use outside_cases::marked::{ACCEPTED, EXAMPLE, bytes, kronecker, refused};
+use outside_cases::marked::{ACCEPTED, EXAMPLE, bytes, families, kronecker, refused};
 use outside_cases::seeded::Seeded;
 use outside_cases::seeded::listings::{
     any_listing, break_line, change_counts, change_cube, change_outputs, change_polarities,
@@ -15,15 +17,16 @@ use outside_cases::seeded::listings::{
 use outside_cases::seeded::tables::{longest_listing_table, random_table};
 use outside_cases::seeded::texts::{
     TELLING_BYTES, damaged_text, kronecker_text, sound_text, with_k_somewhere, with_other_lines,
+    with_other_word,
 };
 use outside_cases::text::listing::Listing;
 use outside_cases::text::{Design, Kind, compile};
 use std::collections::BTreeMap;
 
-/// How many pairs are drawn, the same number of each family.
+/// How many pairs are drawn, the same number of each sort.
 const PAIRS: usize = 10_000;
 
-/// How often a family gives each of its outcomes, at least.
+/// How often a sort gives each of its outcomes, at least.
 const LEAST: usize = 5;
 
 /// A table text and a listing.
@@ -115,126 +118,149 @@ fn changed_twice(seeded: &mut Seeded, first: Change, second: Change) -> Pair {
     Pair { text, listing: listing.bytes() }
 }
 
-/// A family of pairs, with the outcomes that it gives: each of them often enough, and no other.
-struct Family {
+/// A sort of pairs, with the outcomes that it gives: each of them often enough, and no other.
+struct Sort {
     name: &'static str,
     outcomes: &'static [Outcome],
     pair: fn(&mut Seeded) -> Pair,
 }
 
-const FAMILIES: [Family; 25] = [
-    Family { name: "our listing", outcomes: &[Same], pair: own_listing },
-    Family {
+const SORTS: [Sort; 29] = [
+    Sort { name: "our listing", outcomes: &[Same], pair: own_listing },
+    Sort {
         name: "a character of a cube",
         outcomes: &[Differs, NotOfClass, BadListing, OtherListing],
         pair: |seeded| changed(seeded, change_cube),
     },
-    Family {
+    Sort {
         name: "a character of a cube or a term less, with true counts",
         outcomes: &[Differs, NotOfClass, BadListing],
         pair: |seeded| changed(seeded, change_with_true_counts),
     },
-    Family {
+    Sort {
         name: "a character of the outputs",
         outcomes: &[Differs, BadListing],
         pair: |seeded| changed(seeded, change_outputs),
     },
-    Family {
+    Sort {
         name: "a count",
         outcomes: &[OtherListing],
         pair: |seeded| changed(seeded, change_counts),
     },
-    Family {
+    Sort {
         name: "a line, or the end",
         outcomes: &[Same, BadListing, OtherListing],
         pair: other_lines,
     },
-    Family {
+    Sort {
         name: "M or i",
         outcomes: &[Same, NotOfClass],
         pair: |seeded| changed(seeded, change_polarities),
     },
-    Family {
+    Sort {
         name: "n, m or k",
         outcomes: &[BadListing, OtherListing],
         pair: |seeded| other_sizes_line(seeded, |_, _| ()),
     },
-    Family {
+    Sort {
         name: "n, m or k, and a bad line",
         outcomes: &[BadListing, OtherListing],
         pair: |seeded| other_sizes_line(seeded, break_line),
     },
-    Family {
+    Sort {
         name: "a count and a bad line",
         outcomes: &[BadListing],
         pair: |seeded| changed_twice(seeded, change_counts, break_line),
     },
-    Family {
+    Sort {
         name: "a count, and M or i",
         outcomes: &[OtherListing],
         pair: |seeded| changed_twice(seeded, change_counts, change_polarities),
     },
-    Family {
+    Sort {
         name: "M or i, and a character of the outputs",
         outcomes: &[Differs, NotOfClass, BadListing],
         pair: |seeded| changed_twice(seeded, change_polarities, change_outputs),
     },
-    Family {
+    Sort {
         name: "one byte",
         outcomes: &[Same, Differs, NotOfClass, BadListing, OtherListing],
         pair: other_byte,
     },
-    Family {
+    Sort {
         name: "a text and a listing, one or both damaged or changed",
         outcomes: &[Same, Differs, NotOfClass, BadTable, BadListing, OtherListing],
         pair: damaged_pair,
     },
-    Family { name: "any member", outcomes: &[Same], pair: member_of_the_table },
-    Family { name: "any member of another table", outcomes: &[Differs], pair: member_of_another },
-    Family {
+    Sort { name: "any member", outcomes: &[Same], pair: member_of_the_table },
+    Sort { name: "any member of another table", outcomes: &[Differs], pair: member_of_another },
+    Sort {
         name: "a listing beside a text of other sizes",
         outcomes: &[OtherListing],
         pair: other_sizes,
     },
-    Family {
+    Sort {
         name: "no term, with any M and i",
         outcomes: &[Same, Differs, NotOfClass],
         pair: no_term,
     },
-    Family {
+    Sort {
         name: "cubes beside the table that they give",
         outcomes: &[Same, NotOfClass],
         pair: |seeded| cubes_beside(seeded, |_, _| ()),
     },
-    Family {
+    Sort {
         name: "cubes beside that table with one byte changed",
         outcomes: &[Differs, NotOfClass],
         pair: |seeded| cubes_beside(seeded, change_table),
     },
-    Family {
+    Sort {
         name: "a form listing of the table beside its K text",
         outcomes: &[OtherListing],
         pair: |seeded| form_beside_k(seeded, |_, listing| listing.to_vec()),
     },
-    Family {
+    Sort {
         name: "a form listing with one byte changed beside a K text",
         outcomes: &[BadListing, OtherListing],
         pair: |seeded| form_beside_k(seeded, on_first_line),
     },
-    Family {
+    Sort {
         name: "a form listing with other lines beside a K text",
         outcomes: &[BadListing, OtherListing],
         pair: |seeded| form_beside_k(seeded, with_other_lines),
     },
-    Family {
+    Sort {
         name: "a kron listing beside its K text, or with a digit there",
         outcomes: &[BadListing],
         pair: kron_listing,
     },
-    Family {
+    Sort {
         name: "a K text, as it is or with a K somewhere",
         outcomes: &[BadTable, BadListing, OtherListing],
         pair: k_somewhere,
+    },
+    Sort {
+        name: "a listing of the other family",
+        outcomes: &[OtherListing],
+        pair: |seeded| other_family(seeded, |_, _| ()),
+    },
+    Sort {
+        name: "a listing of the other family, with a bad line or wrong counts",
+        outcomes: &[OtherListing],
+        pair: |seeded| {
+            let change = if seeded.once_in(2) { break_line } else { change_counts };
+            other_family(seeded, change)
+        },
+    },
+    Sort {
+        name: "the first word of a listing",
+        outcomes: &[Same, BadListing, OtherListing],
+        pair: listing_word,
+    },
+    Sort {
+        name: "the first word of a table text",
+        outcomes: &[Same, BadTable, OtherListing],
+        pair: table_word,
     },
 ];
 
@@ -311,7 +337,8 @@ fn member_of_another(seeded: &mut Seeded) -> Pair {
 
 fn other_sizes(seeded: &mut Seeded) -> Pair {
     let ((design, text), (other, _)) = (drawn(seeded), drawn(seeded));
-    if (design.n, design.m, design.kind) == (other.n, other.m, other.kind) {
+    let sizes = |design: &Design| (design.family, design.n, design.m, design.kind);
+    if sizes(&design) == sizes(&other) {
         return other_sizes(seeded);
     }
     Pair { text, listing: any_listing(seeded, &other).bytes() }
@@ -334,11 +361,12 @@ fn cubes_beside(seeded: &mut Seeded, change: fn(&mut Seeded, &mut Design)) -> Pa
     Pair { text: design.text(), listing: listing.bytes() }
 }
 
-/// A `K` text beside a `form` listing of any member that gives its table, with a change in its bytes.
+/// A `K` text beside a listing, of either family, of any member that gives its table, with a change in its
+/// bytes.
 fn form_beside_k(seeded: &mut Seeded, change: fn(&mut Seeded, &[u8]) -> Vec<u8>) -> Pair {
     let (design, _) = drawn(seeded);
     let listing = any_listing(seeded, &design).bytes();
-    let text = Design { kind: Kind::Kronecker, ..design }.text();
+    let text = Design::kronecker(design.n, design.m, design.table).text();
     Pair { text, listing: change(seeded, &listing) }
 }
 
@@ -350,32 +378,60 @@ fn on_first_line(seeded: &mut Seeded, listing: &[u8]) -> Vec<u8> {
 }
 
 /// The listing that the evaluator writes for a `K` text, beside this text or beside the same table with a
-/// digit.
+/// digit and the word of either family.
 fn kron_listing(seeded: &mut Seeded) -> Pair {
     let (design, text) = kronecker_text(seeded, 5);
     let listing = compile(&text).expect("a sound text");
-    let digit = Design::block(design.n, design.m, seeded.below(design.n.min(3) + 1), design.table);
+    let digit = Design::block(design.n, design.m, seeded.below(design.n.min(3) + 1), design.table)
+        .of_family(*seeded.pick(&Family::ALL));
     Pair { text: if seeded.once_in(2) { text } else { digit.text() }, listing }
 }
 
-/// A `K` text, as it is or with a `K` somewhere, beside a `form` listing or its own.
+/// A `K` text, as it is or with a `K` somewhere, beside a listing of either family or its own.
 fn k_somewhere(seeded: &mut Seeded) -> Pair {
     let (design, text) = kronecker_text(seeded, 3);
     let listing = match seeded.below(3) {
         0 => compile(&text).expect("a sound text"),
-        _ => any_listing(seeded, &Design { kind: Kind::Block(1), ..design }).bytes(),
+        _ => {
+            let family = *seeded.pick(&Family::ALL);
+            any_listing(seeded, &Design { family, kind: Kind::Block(1), ..design }).bytes()
+        }
     };
     let text = if seeded.once_in(3) { text } else { with_k_somewhere(seeded, &text) };
     Pair { text, listing }
 }
 
-/// Drawn pairs of each family. A family that no longer gives one of its outcomes fails.
+/// Our listing with a change in its lines and the word of the other family.
+fn other_family(seeded: &mut Seeded, change: Change) -> Pair {
+    let (design, text) = drawn_with_terms(seeded);
+    let mut listing = ours_read(&design, &text);
+    change(seeded, &mut listing);
+    listing.family = match design.family {
+        Family::One => Family::Two,
+        Family::Two => Family::One,
+    };
+    Pair { text, listing: listing.bytes() }
+}
+
+/// Our listing with a first word that is `form`, `form2` or near them.
+fn listing_word(seeded: &mut Seeded) -> Pair {
+    let (_, text) = drawn(seeded);
+    Pair { listing: with_other_word(seeded, &ours(&text)), text }
+}
+
+/// Our listing beside its text with a first word that is `table`, `table2` or near them.
+fn table_word(seeded: &mut Seeded) -> Pair {
+    let (_, text) = drawn(seeded);
+    Pair { listing: ours(&text), text: with_other_word(seeded, &text) }
+}
+
+/// Drawn pairs of each sort. A sort that no longer gives one of its outcomes fails.
 #[test]
 fn drawn_pairs() {
     let mut seeded = Seeded::new(81);
-    for Family { name, outcomes, pair } in FAMILIES {
+    for Sort { name, outcomes, pair } in SORTS {
         let mut times = BTreeMap::new();
-        for _ in 0..PAIRS / FAMILIES.len() {
+        for _ in 0..PAIRS / SORTS.len() {
             let Pair { text, listing } = pair(&mut seeded);
             *times.entry(check_pair(&text, &listing)).or_insert(0) += 1;
         }
@@ -392,11 +448,11 @@ fn marked_pairs() {
     }
 }
 
-/// The marked texts: an accepted one is the same beside its `form` listing, and its `kron` listing is refused;
-/// a refused one is refused as it is by the reading call, whatever the listing is.
+/// The marked texts: an accepted one is the same beside its `form` or `form2` listing, and its `kron` listing is
+/// refused; a refused one is refused as it is by the reading call, whatever the listing is.
 #[test]
 fn marked_texts() {
-    for (text, listing) in ACCEPTED {
+    for (text, listing) in ACCEPTED.into_iter().chain(families::ACCEPTED) {
         check_answer(&bytes(text), &bytes(listing), [0, 0, 1, 0]);
     }
     for (text, listing) in kronecker::ACCEPTED {
@@ -404,7 +460,7 @@ fn marked_texts() {
         check_answer(&bytes(text), &bytes(EXAMPLE_LISTING), [12, 1, 0, 0]);
     }
     for (text, number, line) in refused() {
-        for listing in [EXAMPLE_LISTING, b"", b"form 9 9 9 1 2 2 2\n"] {
+        for listing in [EXAMPLE_LISTING, EXAMPLE_LISTING_TWO, b"", b"form 9 9 9 1 2 2 2\n"] {
             check_answer(&bytes(text), &bytes(listing), [number, line, 0, 0]);
         }
     }
@@ -427,18 +483,20 @@ fn members_beside_two_tables() {
     }
 }
 
-/// Every byte of a listing changed into every other, beside a text with a digit and one with `K`.
+/// Every byte of a listing of each family changed into every other, beside a text of each family and one with
+/// `K`.
 #[test]
 fn every_byte_changed() {
-    let listing = bytes(EXAMPLE_LISTING);
     let design = Design::block(2, 2, 1, vec![2, 1, 1, 1]);
-    let texts = [design.text(), design.text_with("K")];
-    for place in 0..listing.len() {
-        for byte in 0..=255 {
-            let mut changed = listing.clone();
-            changed[place] = byte;
-            for text in &texts {
-                check_pair(text, &changed);
+    let texts = [design.text(), design.text_with("K"), design.of_family(Family::Two).text()];
+    for listing in [EXAMPLE_LISTING, EXAMPLE_LISTING_TWO].map(bytes) {
+        for place in 0..listing.len() {
+            for byte in 0..=255 {
+                let mut changed = listing.clone();
+                changed[place] = byte;
+                for text in &texts {
+                    check_pair(text, &changed);
+                }
             }
         }
     }
@@ -448,17 +506,19 @@ fn every_byte_changed() {
 /// every place.
 #[test]
 fn every_place_edited() {
-    let (text, listing) = (bytes(EXAMPLE), bytes(EXAMPLE_LISTING));
-    for place in 0..listing.len() {
-        let (before, after) = listing.split_at(place);
-        check_pair(&text, before);
-        check_pair(&text, &[before, &after[1..]].concat());
-        check_pair(&text, &[before, &after[..1], after].concat());
-        if let [first, second, rest @ ..] = after {
-            check_pair(&text, &[before, &[*second, *first], rest].concat());
-        }
-        for &byte in TELLING_BYTES {
-            check_pair(&text, &[before, &[byte], after].concat());
+    for pair in [[EXAMPLE, EXAMPLE_LISTING], [EXAMPLE_TWO, EXAMPLE_LISTING_TWO]] {
+        let [text, listing] = pair.map(bytes);
+        for place in 0..listing.len() {
+            let (before, after) = listing.split_at(place);
+            check_pair(&text, before);
+            check_pair(&text, &[before, &after[1..]].concat());
+            check_pair(&text, &[before, &after[..1], after].concat());
+            if let [first, second, rest @ ..] = after {
+                check_pair(&text, &[before, &[*second, *first], rest].concat());
+            }
+            for &byte in TELLING_BYTES {
+                check_pair(&text, &[before, &[byte], after].concat());
+            }
         }
     }
 }
@@ -468,7 +528,7 @@ fn every_place_edited() {
 fn every_mixed_set_and_polarity() {
     let example = Design::block(2, 2, 1, vec![2, 1, 1, 1]);
     let zero = Design::block(3, 1, 2, vec![0; 8]);
-    for design in [example, zero] {
+    for design in [example.clone(), example.of_family(Family::Two), zero] {
         let text = design.text();
         let listing = ours_read(&design, &text);
         for number in 0..300 {
@@ -483,8 +543,9 @@ fn every_mixed_set_and_polarity() {
 #[test]
 fn long_listings() {
     let mut seeded = Seeded::new(83);
-    for k in 0..=3 {
-        let design = Design::block(8, 8, k, longest_listing_table());
+    for (family, k) in Family::ALL.into_iter().flat_map(|family| (0..=3).map(move |k| (family, k)))
+    {
+        let design = Design::block(8, 8, k, longest_listing_table()).of_family(family);
         let (text, listing) = (design.text(), any_listing(&mut seeded, &design).bytes());
         assert_eq!(check_pair(&text, &listing), Same);
         for length in (0..listing.len()).step_by(331) {

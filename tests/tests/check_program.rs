@@ -1,13 +1,15 @@
 //! The program `rmcheck`: a table text and a listing, in two files, to one line.
 
 use outside_cases::check::printed;
+use outside_cases::family::Family;
+use outside_cases::marked::families::{EXAMPLE_LISTING_TWO, EXAMPLE_TWO};
 use outside_cases::marked::pairs::{self, EXAMPLE_LISTING};
 use outside_cases::marked::{EXAMPLE, bytes};
 use outside_cases::program::{JUDGED_BYTES, Written, run_check};
 use outside_cases::seeded::Seeded;
 use outside_cases::seeded::listings::any_listing;
 use outside_cases::seeded::tables::longest_listing_table;
-use outside_cases::seeded::texts::{damaged_text, sound_text};
+use outside_cases::seeded::texts::{damaged_text, sound_text, with_other_word};
 use outside_cases::text::Design;
 
 /// What the program writes for a table text and a listing.
@@ -36,8 +38,13 @@ fn lines() {
     assert_eq!(written(&x2, &own), b"refused\t12\t1\n");
     assert_eq!(written(&x2, &bytes(b"form 2 1 0 0 0 0 0\n")), b"refused\t11\t2\n");
     assert_eq!(written(b"", b""), b"refused\t6\t1\n");
+    let (two, own_two) = (bytes(EXAMPLE_TWO), bytes(EXAMPLE_LISTING_TWO));
+    assert_eq!(written(&two, &own_two), b"same\n");
+    assert_eq!(written(&two, &own), b"refused\t12\t1\n");
+    assert_eq!(written(&bytes(EXAMPLE), &own_two), b"refused\t12\t1\n");
     let kronecker = bytes(b"table 2 1 K\non 2 1\non 3 1\nend\n");
     assert_eq!(written(&kronecker, &own), b"refused\t12\t1\n");
+    assert_eq!(written(&kronecker, &own_two), b"refused\t12\t1\n");
     let kron = bytes(b"kron 2 1 SP 1 1\nterm 1- 1\nend\n");
     assert_eq!(written(&kronecker, &kron), b"refused\t11\t1\n");
     let last = bytes(b"table 8 1 3\non 255 1\nend\n");
@@ -60,15 +67,19 @@ fn drawn_pairs() {
         check_files(&text, &listing);
         check_files(&text, &damaged_text(&mut seeded, &listing));
         check_files(&damaged_text(&mut seeded, &text), &listing);
+        check_files(&text, &with_other_word(&mut seeded, &listing));
+        check_files(&with_other_word(&mut seeded, &text), &listing);
     }
 }
 
-/// The longest text beside the longest listing.
+/// The longest text of each family beside the longest listing.
 #[test]
 fn longest() {
-    let design = Design::block(8, 8, 3, longest_listing_table());
-    let listing = any_listing(&mut Seeded::new(92), &design).bytes();
-    check_files(&design.text(), &listing);
+    for family in Family::ALL {
+        let design = Design::block(8, 8, 3, longest_listing_table()).of_family(family);
+        let listing = any_listing(&mut Seeded::new(92), &design).bytes();
+        check_files(&design.text(), &listing);
+    }
 }
 
 /// Files of exactly 8,192 bytes, of one more, and of many more, sound up to where they are filled up.

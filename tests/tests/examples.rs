@@ -1,38 +1,49 @@
 //! The designs of `examples/`: `rmform` writes each stored listing, the evaluator agrees, and `rmcheck` says
-//! `same` of a `form` listing and refuses a `kron` listing with 11, line 1; and the edited listings of
-//! `examples/checks/`, with the line that `rmcheck` writes for each.
+//! `same` of a `form` or `form2` listing and refuses a `kron` listing with 11, line 1; the design that is there
+//! for both families; and the edited listings of `examples/checks/`, with the line that `rmcheck` writes for
+//! each.
 
 use outside_cases::check;
+use outside_cases::family::Family;
 use outside_cases::program::{run, run_check};
-use outside_cases::text::{Kind, printed};
+use outside_cases::text::listing::Listing;
+use outside_cases::text::{Design, Kind, printed};
 use std::fs::{read, read_dir};
 use std::path::{Path, PathBuf};
 
+fn directory() -> PathBuf {
+    Path::new(env!("CARGO_MANIFEST_DIR")).join("../examples")
+}
+
 /// The table texts of `examples/`.
 fn tables() -> Vec<PathBuf> {
-    let directory = Path::new(env!("CARGO_MANIFEST_DIR")).join("../examples");
-    let entries = read_dir(directory).expect("the examples are there");
+    let entries = read_dir(directory()).expect("the examples are there");
     let paths = entries.map(|entry| entry.expect("an entry has a name").path());
     paths.filter(|path| path.extension().is_some_and(|end| end == "table")).collect()
 }
 
+fn design(text: &[u8]) -> Design {
+    outside_cases::text::read(text).expect("a sound text")
+}
+
 fn is_kronecker(text: &[u8]) -> bool {
-    outside_cases::text::read(text).expect("a sound text").kind == Kind::Kronecker
+    design(text).kind == Kind::Kronecker
 }
 
 /// How the listing of this text begins.
-fn first_word(text: &[u8]) -> &'static [u8] {
-    if is_kronecker(text) { b"kron\t" } else { b"form\t" }
+fn first_word(text: &[u8]) -> &'static str {
+    if is_kronecker(text) { "kron" } else { design(text).family.form_word() }
 }
 
 #[test]
 fn listings_are_written() {
     let tables = tables();
-    assert!(tables.len() >= 9, "{} designs", tables.len());
+    assert!(tables.len() >= 11, "{} designs", tables.len());
     for table in tables {
         let text = read(&table).expect("a table text");
         let listing = read(table.with_extension("listing")).expect("its listing");
-        assert!(listing.starts_with(first_word(&text)), "{}", table.display());
+        let first = listing.split(|&byte| byte == b'\t').next();
+        assert_eq!(first, Some(first_word(&text).as_bytes()), "{}", table.display());
         assert_eq!(run(&[&text], || ()), listing, "{}", table.display());
         assert_eq!(printed(&text), listing, "{}", table.display());
     }
@@ -48,19 +59,41 @@ fn listings_are_judged() {
     }
 }
 
+/// One design for both families: the tables are the same, each listing is the cheaper one in its own family's
+/// order, and beside the other text it is refused.
+#[test]
+fn families_side_by_side() {
+    let tables = ["signed-multiplier.table", "signed-multiplier-family2.table"];
+    let tables = tables.map(|name| directory().join(name));
+    let listings = [&tables[0], &tables[1]].map(|table| table.with_extension("listing"));
+    let designs = [&tables[0], &tables[1]].map(|table| design(&read(table).expect("a table text")));
+    assert_eq!(designs[0].clone().of_family(Family::Two), designs[1]);
+    let cost = |place: usize| {
+        let listing = read(&listings[place]).expect("its listing");
+        Listing::read(&designs[place], &listing).expect("a sound listing").counted()
+    };
+    let [one, two] = [cost(0), cost(1)];
+    assert!(Family::One.order(one) < Family::One.order(two));
+    assert!(Family::Two.order(two) < Family::Two.order(one));
+    for pair in [[&tables[0], &listings[1]], [&tables[1], &listings[0]]] {
+        assert_eq!(run_check(&pair.map(PathBuf::as_path)).stdout, b"refused\t12\t1\n");
+    }
+}
+
 /// The listings of `examples/checks/` and the line for each beside the till's wake line, by hand.
-const CHECKS: [(&str, &str); 6] = [
+const CHECKS: [(&str, &str); 7] = [
     ("against-i", "not of the class\n"),
     ("block-disagrees", "not of the class\n"),
     ("dearer", "same\n"),
     ("differs", "differs\t4\n"),
     ("line-moved", "refused\t11\t4\n"),
+    ("other-family", "refused\t12\t1\n"),
     ("term-removed", "refused\t12\t1\n"),
 ];
 
 #[test]
 fn edited_listings_are_judged() {
-    let directory = Path::new(env!("CARGO_MANIFEST_DIR")).join("../examples");
+    let directory = directory();
     let table = directory.join("till-wake.table");
     let text = read(&table).expect("a table text");
     let edited = read_dir(directory.join("checks")).expect("the edited listings are there");

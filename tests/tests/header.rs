@@ -5,9 +5,10 @@ use outside_cases::calls::{
     CheckAnswer, CompileAnswer, MinimiseAnswer, ReadAnswer, TransformAnswer,
 };
 use outside_cases::check::{Verdict, answer, check};
+use outside_cases::family::Family;
 use outside_cases::marked::{EXAMPLE, bytes};
 use outside_cases::seeded::tables::longest_listing_table;
-use outside_cases::text::{Design, printed};
+use outside_cases::text::{Design, printed, read_answer};
 use std::collections::{BTreeMap, BTreeSet};
 use std::fs::{read_dir, read_to_string};
 use std::path::{Path, PathBuf};
@@ -81,14 +82,18 @@ fn declarations_are_those_of_the_exported_functions() {
 #[test]
 fn limits_and_lengths() {
     let constants = constants(&header());
-    let longest = Design::kronecker(8, 8, longest_listing_table()).text();
+    let table = longest_listing_table();
+    let block = |family| Design::block(8, 8, 3, table.clone()).of_family(family).text();
+    let kronecker = Design::kronecker(8, 8, table.clone()).text();
+    let texts = [block(Family::One), block(Family::Two), kronecker];
+    let longest = |length: fn(&Vec<u8>) -> usize| texts.iter().map(length).max().expect("texts");
     for (name, number) in [
         ("MOST_INPUTS", 8),
         ("MOST_OUTPUTS", 8),
         ("MOST_MIXED", 3),
         ("TABLE_BYTES", 256),
-        ("LONGEST_LISTING", printed(&longest).len()),
-        ("LONGEST_TEXT", longest.len()),
+        ("LONGEST_LISTING", longest(|text| printed(text).len())),
+        ("LONGEST_TEXT", longest(Vec::len)),
         ("FORWARD_ANSWER", TransformAnswer::default().len()),
         ("BACKWARD_ANSWER", TransformAnswer::default().len()),
         ("MINIMISE_ANSWER", MinimiseAnswer::default().len()),
@@ -97,6 +102,28 @@ fn limits_and_lengths() {
         ("CHECK_ANSWER", CheckAnswer::default().len()),
     ] {
         assert_eq!(constants.get(&format!("MIPALDOZ_{name}")), Some(&number), "{name}");
+    }
+}
+
+/// The numbers of the reading call's answer in their places, the kinds of k and the families.
+#[test]
+fn numbers_of_the_reading_call() {
+    let constants = constants(&header());
+    let constant = |name: &str| constants.get(&format!("MIPALDOZ_{name}")).copied();
+    let block = Design::block(4, 2, 3, vec![0; 16]);
+    for (design, k, kind, family) in [
+        (block.clone(), 3, "KIND_BLOCK", "FAMILY_ONE"),
+        (block.of_family(Family::Two), 3, "KIND_BLOCK", "FAMILY_TWO"),
+        (Design::kronecker(4, 2, vec![0; 16]), 0, "KIND_KRONECKER", "FAMILY_ONE"),
+    ] {
+        let answer = read_answer(&Ok(design));
+        let number = |place: &str| Some(answer[constant(place).expect(place)] as usize);
+        for (place, value) in [("NUMBER", 0), ("LINE", 0), ("INPUTS", 4), ("OUTPUTS", 2)] {
+            assert_eq!(number(place), Some(value), "{place}");
+        }
+        assert_eq!(number("MIXED_INPUTS"), Some(k));
+        assert_eq!(number("KIND"), constant(kind));
+        assert_eq!(number("FAMILY"), constant(family));
     }
 }
 

@@ -1,9 +1,11 @@
-//! The minimising call against both searches of the class.
+//! The minimising call, which keeps to family one, against both searches of the class.
 
 use outside_cases::calls::{self, MinimiseAnswer};
 use outside_cases::class::{Class, Cost, Expansion, judge_minimise, least};
 use outside_cases::evaluator::{literals, places};
+use outside_cases::family::Family;
 use outside_cases::lent::{Lent, answer};
+use outside_cases::marked::families::{COMPARED, Compared, INPUTS, OUTPUTS};
 use outside_cases::marked::{DESIGNS, Marked};
 use outside_cases::seeded::tables::{
     any_table, every_table, output_bits, random_table, sparse_table, structured_table, table_of,
@@ -62,7 +64,7 @@ fn check_found(numbers: Numbers, table: &[u8], outcome: &Outcome, wanted: &Expan
 
 /// One sound design against the search block by block, and at every point.
 fn check_design(seeded: &mut Seeded, numbers: Numbers, table: &[u8]) -> Expansion {
-    let wanted = least(numbers.n, numbers.k, table);
+    let wanted = least(Family::One, numbers.n, numbers.k, table);
     assert_eq!(wanted.table(numbers.n), table);
     check_found(numbers, table, &run_sound(seeded, numbers, table), &wanted);
     wanted
@@ -76,7 +78,7 @@ fn every_small_table() {
             let (class, numbers) = (Class::new(n, k), Numbers { n, m, k });
             for table in every_table(n, m) {
                 let outcome = run_sound(&mut seeded, numbers, &table);
-                check_found(numbers, &table, &outcome, &class.least(&table));
+                check_found(numbers, &table, &outcome, &class.least(Family::One, &table));
             }
         }
     }
@@ -93,7 +95,7 @@ fn against_every_member() {
                 let numbers = Numbers { n, m: seeded.within(1, 8), k };
                 let table = any_table(&mut seeded, n, numbers.m);
                 let outcome = run_sound(&mut seeded, numbers, &table);
-                check_found(numbers, &table, &outcome, &class.least(&table));
+                check_found(numbers, &table, &outcome, &class.least(Family::One, &table));
             }
         }
     }
@@ -143,6 +145,18 @@ fn marked_designs() {
     }
 }
 
+/// The designs on which the families choose differently: the call answers as family one does.
+#[test]
+fn compared_designs() {
+    let mut seeded = Seeded::new(33);
+    for Compared { k, table, one, .. } in COMPARED {
+        let numbers = Numbers { n: INPUTS, m: OUTPUTS, k };
+        let outcome = run_sound(&mut seeded, numbers, table);
+        assert_eq!(outcome.answer[2..], one.map(|number| number as u64), "{table:?}");
+        check_design(&mut seeded, numbers, table);
+    }
+}
+
 /// All zero and all one for every n, m and k.
 #[test]
 fn constant_tables() {
@@ -167,7 +181,7 @@ fn check_judgement(seeded: &mut Seeded, numbers: Numbers, table: &[u8], lengths:
     let outcome = run(numbers, table, &seeded.bytes(lengths[0]), &seeded.bytes(lengths[1]));
     let Numbers { n, m, k } = numbers;
     match judge_minimise(n, m, k, table, lengths[0], lengths[1]) {
-        Ok(()) => check_found(numbers, table, &outcome, &least(n, k, table)),
+        Ok(()) => check_found(numbers, table, &outcome, &least(Family::One, n, k, table)),
         Err(refusal) => {
             let answer = [refusal.number, refusal.line, 0, 0, 0, 0];
             assert_eq!(outcome.answer, answer, "{numbers:?}, {} and {lengths:?}", table.len());

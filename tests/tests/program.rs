@@ -1,10 +1,13 @@
 //! The program `rmform`: standard input to standard output.
 
+use outside_cases::family::Family;
 use outside_cases::marked::{EXAMPLE, accepted, bytes, refused};
 use outside_cases::program::{JUDGED_BYTES, run};
 use outside_cases::seeded::Seeded;
 use outside_cases::seeded::tables::{longest_listing_table, random_table};
-use outside_cases::seeded::texts::{damaged_text, kronecker_text, sound_text, with_k_somewhere};
+use outside_cases::seeded::texts::{
+    damaged_text, kronecker_text, sound_text, with_k_somewhere, with_other_word,
+};
 use outside_cases::text::{Design, printed};
 use std::thread::sleep;
 use std::time::Duration;
@@ -42,6 +45,7 @@ fn drawn_texts() {
         let (_, text) = sound_text(&mut seeded, if round % 5 == 0 { 8 } else { 4 });
         check_judged(&text);
         check_judged(&damaged_text(&mut seeded, &text));
+        check_judged(&with_other_word(&mut seeded, &text));
     }
 }
 
@@ -66,22 +70,26 @@ fn every_size() {
             let size = 1 << n;
             let drawn = random_table(&mut seeded, n, m);
             for table in [vec![0; size], vec![1; size], drawn] {
-                check_judged(&Design::block(n, m, k, table.clone()).text());
+                for family in Family::ALL {
+                    check_judged(&Design::block(n, m, k, table.clone()).of_family(family).text());
+                }
                 check_judged(&Design::kronecker(n, m, table).text());
             }
         }
     }
 }
 
-/// The longest text, and the longest listing of each kind of k.
+/// The longest text and the longest listing of each family and each kind of k.
 #[test]
 fn longest() {
-    let table = longest_listing_table();
-    for (design, length) in
-        [(Design::block(8, 8, 3, table.clone()), 5916), (Design::kronecker(8, 8, table), 5919)]
-    {
+    let block = Design::block(8, 8, 3, longest_listing_table());
+    for (design, lengths) in [
+        (block.clone(), (4002, 5916)),
+        (block.of_family(Family::Two), (4003, 5917)),
+        (Design::kronecker(8, 8, longest_listing_table()), (4002, 5919)),
+    ] {
         let text = design.text();
-        assert_eq!((text.len(), printed(&text).len()), (4002, length));
+        assert_eq!((text.len(), printed(&text).len()), lengths);
         check_judged(&text);
     }
 }

@@ -2,17 +2,22 @@
 
 use outside_cases::calls::{self, CompileAnswer, ReadAnswer};
 use outside_cases::check::{Verdict, check};
+use outside_cases::class::Class;
 use outside_cases::evaluator::{Refusal, places};
-use outside_cases::kronecker::Kinds;
+use outside_cases::family::Family;
+use outside_cases::kronecker::{Kinds, order};
 use outside_cases::lent::{Lent, answer};
+use outside_cases::marked::families::{COMPARED, Compared, EXAMPLE_TWO, INPUTS, OUTPUTS};
 use outside_cases::marked::{EXAMPLE, accepted, bytes, refused};
 use outside_cases::seeded::Seeded;
 use outside_cases::seeded::tables::{any_table, every_table, longest_listing_table, random_table};
 use outside_cases::seeded::texts::{
-    K_FIELDS, TELLING_BYTES, damaged_text, kronecker_text, sound_text, with_k_somewhere,
+    K_FIELDS, TELLING_BYTES, WORD_ENDS, damaged_text, kronecker_text, sound_text, sound_text_of,
+    with_k_somewhere, with_other_word,
 };
 use outside_cases::text::kron::KronListing;
-use outside_cases::text::{Design, Kind, compile, judge_output, judge_read, read};
+use outside_cases::text::listing::Listing;
+use outside_cases::text::{Design, Kind, compile, judge_output, judge_read, read, read_answer};
 
 /// Makes the reading call with margins around every buffer.
 fn run_read(text: &[u8], lent: &[u8]) -> (ReadAnswer, Lent<u8>) {
@@ -37,18 +42,14 @@ fn run_compile(text: &[u8], lent: &[u8]) -> (CompileAnswer, Lent<u8>) {
 /// The reading call on one text, with a lent table of this length.
 fn check_read(seeded: &mut Seeded, text: &[u8], table_length: usize) {
     let (answer, table) = run_read(text, &seeded.bytes(table_length));
-    let shown = text.escape_ascii();
-    match judge_read(text, table_length) {
-        Ok(Design { n, m, kind, table: wanted }) => {
-            let [k, kind] = kind.numbers();
-            assert_eq!(answer, [0, 0, n as u64, m as u64, k, kind], "{shown}");
+    let (judged, shown) = (judge_read(text, table_length), text.escape_ascii());
+    assert_eq!(answer, read_answer(&judged), "{shown}");
+    match judged {
+        Ok(Design { n, table: wanted, .. }) => {
             assert_eq!(table.inside()[..places(n)], wanted, "{shown}");
             assert!(table.inside()[places(n)..].iter().all(|&byte| byte == 0), "{shown}");
         }
-        Err(Refusal { number, line }) => {
-            assert_eq!(answer, [number, line, 0, 0, 0, 0], "{shown}");
-            table.check_untouched();
-        }
+        Err(_) => table.check_untouched(),
     }
 }
 
@@ -135,19 +136,21 @@ fn sound_texts_of_every_size() {
     }
 }
 
-/// Every n, m and k field, sound or not, with no point and with one.
+/// Every n, m and k field, sound or not, after the word of either family, with no point and with one.
 #[test]
 fn every_first_line() {
     let mut seeded = Seeded::new(44);
     for (n, m) in (b'0'..=b'9').flat_map(|n| (b'0'..=b'9').map(move |m| (n, m))) {
         for k in (b'0'..=b'9').chain(*b"-K") {
-            let first = [b"table\t", &[n, b'\t', m, b'\t', k][..], b"\n"].concat();
-            let outputs = vec![b'1'; usize::from(m - b'0')];
-            let on = [&b"on\t1\t"[..], &outputs, b"\n"].concat();
-            check_read(&mut seeded, &[&first, &on[..], b"end\n"].concat(), 256);
-            check_read(&mut seeded, &[&first, &b"end\n"[..]].concat(), 256);
-            if n < b'4' {
-                check_text(&mut seeded, &[&first, &on[..], b"end\n"].concat());
+            for word in Family::ALL.map(|family| family.table_word().as_bytes()) {
+                let first = [word, &[b'\t', n, b'\t', m, b'\t', k], b"\n"].concat();
+                let outputs = vec![b'1'; usize::from(m - b'0')];
+                let on = [&b"on\t1\t"[..], &outputs, b"\n"].concat();
+                check_read(&mut seeded, &[&first, &on[..], b"end\n"].concat(), 256);
+                check_read(&mut seeded, &[&first, &b"end\n"[..]].concat(), 256);
+                if n < b'4' {
+                    check_text(&mut seeded, &[&first, &on[..], b"end\n"].concat());
+                }
             }
         }
     }
@@ -163,9 +166,10 @@ fn damaged_texts() {
     }
 }
 
-/// Small texts, one with several lines and one with three digits in a point.
-fn small_texts() -> [Vec<u8>; 3] {
-    [EXAMPLE, b"table 3 1 -\non 0 1\non 7 1\nend\n", b"table 8 3 0\non 128 010\nend\n"].map(bytes)
+/// Small texts, one with several lines, one with three digits in a point, and one of family two.
+fn small_texts() -> [Vec<u8>; 4] {
+    let three_digits = b"table 8 3 0\non 128 010\nend\n";
+    [EXAMPLE, b"table 3 1 -\non 0 1\non 7 1\nend\n", three_digits, EXAMPLE_TWO].map(bytes)
 }
 
 #[test]
@@ -176,16 +180,17 @@ fn cut_at_every_place() {
     }
 }
 
-/// Every byte of a small text changed into every other.
+/// Every byte of a small text of each family changed into every other.
 #[test]
 fn every_byte_changed() {
     let mut seeded = Seeded::new(47);
-    let text = bytes(EXAMPLE);
-    for place in 0..text.len() {
-        for byte in 0..=255 {
-            let mut changed = text.clone();
-            changed[place] = byte;
-            check_text(&mut seeded, &changed);
+    for text in [EXAMPLE, EXAMPLE_TWO].map(bytes) {
+        for place in 0..text.len() {
+            for byte in 0..=255 {
+                let mut changed = text.clone();
+                changed[place] = byte;
+                check_text(&mut seeded, &changed);
+            }
         }
     }
 }
@@ -213,16 +218,19 @@ fn every_place_edited() {
 #[test]
 fn long_texts() {
     let mut seeded = Seeded::new(49);
-    let text = Design::block(8, 8, 3, vec![255; 256]).text();
-    assert_eq!(text.len(), 4002);
-    for length in (0..text.len()).step_by(61) {
-        check_text(&mut seeded, &text[..length]);
+    for (family, longest) in [(Family::One, 4002), (Family::Two, 4003)] {
+        let text = Design::block(8, 8, 3, vec![255; 256]).of_family(family).text();
+        assert_eq!(text.len(), longest);
+        check_text(&mut seeded, &text);
+        for length in (0..text.len()).step_by(61) {
+            check_text(&mut seeded, &text[..length]);
+        }
+        let last = text.strip_suffix(b"end\n").expect("a text ends so");
+        check_text(&mut seeded, &[last, b"on\t256\t11111111\nend\n"].concat());
+        check_text(&mut seeded, &[last, b"on\t255\t11111111\nend\n"].concat());
+        check_text(&mut seeded, &[last, b"on\t254\t1111111\nend\n"].concat());
+        check_text(&mut seeded, &[&text[..], &text].concat());
     }
-    let last = text.strip_suffix(b"end\n").expect("a text ends so");
-    check_text(&mut seeded, &[last, b"on\t256\t11111111\nend\n"].concat());
-    check_text(&mut seeded, &[last, b"on\t255\t11111111\nend\n"].concat());
-    check_text(&mut seeded, &[last, b"on\t254\t1111111\nend\n"].concat());
-    check_text(&mut seeded, &[&text[..], &text].concat());
     for byte in [0, 9, 10, b'0', b't', 255] {
         check_text(&mut seeded, &vec![byte; 20_000]);
         check_text(&mut seeded, &[&b"table\t1\t1\t0\non\t0\t1"[..], &vec![byte; 20_000]].concat());
@@ -237,8 +245,8 @@ fn long_texts() {
 #[test]
 fn output_lengths() {
     let mut seeded = Seeded::new(50);
-    let texts = accepted().map(|(text, _)| bytes(text)).filter(|text| text[6] < b'4');
-    for text in texts.collect::<Vec<_>>() {
+    let small = |text: &Vec<u8>| read(text).is_ok_and(|design| design.n < 5);
+    for text in accepted().map(|(text, _)| bytes(text)).filter(small) {
         let compiled = compile(&text);
         let length = compiled.as_ref().map_or(0, Vec::len);
         (0..=length + 3).for_each(|lent| check_output(&mut seeded, &text, &compiled, lent));
@@ -278,24 +286,21 @@ fn table_lengths() {
     }
 }
 
-/// The longest listing: all 256 products with eight outputs.
+/// The longest listing of each family, and with `K`: all 256 products with eight outputs.
 #[test]
 fn longest_listing() {
     let mut seeded = Seeded::new(53);
-    for k in 0..=3 {
-        let design = Design::block(8, 8, k, longest_listing_table());
+    let block = |k| Design::block(8, 8, k, longest_listing_table());
+    let one = (0..=3).map(|k| (block(k), 5916));
+    let two = (0..=3).map(|k| (block(k).of_family(Family::Two), 5917));
+    let kronecker = (Design::kronecker(8, 8, longest_listing_table()), 5919);
+    for (design, longest) in one.chain(two).chain([kronecker]) {
         let text = design.text();
         let compiled = compile(&text);
-        assert_eq!(compiled.as_ref().map_or(0, Vec::len), 5916);
-        for length in [0, 5915, 5916, 5917, 8192] {
+        assert_eq!(compiled.as_ref().map_or(0, Vec::len), longest);
+        for length in [0, longest - 1, longest, longest + 1, 8192] {
             check_output(&mut seeded, &text, &compiled, length);
         }
-    }
-    let text = Design::kronecker(8, 8, longest_listing_table()).text();
-    let compiled = compile(&text);
-    assert_eq!(compiled.as_ref().map_or(0, Vec::len), 5919);
-    for length in [0, 5916, 5918, 5919, 5920, 8192] {
-        check_output(&mut seeded, &text, &compiled, length);
     }
 }
 
@@ -305,8 +310,10 @@ fn full_tables() {
     let mut seeded = Seeded::new(54);
     for (k, field) in [(0, "0"), (1, "1"), (1, "-"), (2, "2"), (3, "3")] {
         for m in [1, 8] {
-            let table = random_table(&mut seeded, 8, m);
-            check_text(&mut seeded, &Design::block(8, m, k, table).text_with(field));
+            let design = Design::block(8, m, k, random_table(&mut seeded, 8, m));
+            for family in Family::ALL {
+                check_text(&mut seeded, &design.clone().of_family(family).text_with(field));
+            }
         }
     }
 }
@@ -360,8 +367,9 @@ fn kronecker_rivals() {
             let ours = written.expect("a sound listing");
             for rival in kinds.rivals(&design.table) {
                 assert_eq!(rival.table(), design.table);
-                let first = (ours.counted(), &ours.letters) <= (rival.cost, &rival.letters);
-                assert!(first, "{rival:?} is before {ours:?}");
+                let [ours, rival] =
+                    [order(ours.counted(), &ours.letters), order(rival.cost, &rival.letters)];
+                assert!(ours <= rival, "{rival:?} is before {ours:?}");
             }
         }
     }
@@ -382,8 +390,8 @@ fn damaged_kronecker_texts() {
 #[test]
 fn k_everywhere() {
     let mut seeded = Seeded::new(60);
-    let with_k = bytes(b"table 2 2 K\non 0 01\non 3 10\nend\n");
-    for text in [bytes(EXAMPLE), with_k] {
+    let with_k = b"table 2 2 K\non 0 01\non 3 10\nend\n";
+    for text in [EXAMPLE, with_k, EXAMPLE_TWO].map(bytes) {
         let lines: Vec<&[u8]> = text.split_inclusive(|&byte| byte == b'\n').collect();
         for (place, line) in lines.iter().enumerate() {
             let fields: Vec<&[u8]> = line[..line.len() - 1].split(|&byte| byte == 9).collect();
@@ -421,5 +429,95 @@ fn kronecker_buffers() {
         for length in [0, 1, 32, 255, 256, 257, 512] {
             check_read(&mut seeded, &text, length);
         }
+    }
+}
+
+/// The designs on which the families, or the ties of one, choose differently, with the figures of each.
+#[test]
+fn compared_designs() {
+    let mut seeded = Seeded::new(62);
+    for Compared { k, table, one, two, .. } in COMPARED {
+        for (family, figures) in [(Family::One, one), (Family::Two, two)] {
+            let design = Design::block(INPUTS, OUTPUTS, k, table.to_vec()).of_family(family);
+            let text = design.text();
+            check_text(&mut seeded, &text);
+            let Listing { mixed, fixed, stated, .. } = listed(&design, &text);
+            assert_eq!([mixed, fixed, stated.products, stated.literals], figures, "{design:?}");
+        }
+    }
+}
+
+/// The listing that the text call writes, as it is read.
+fn listed(design: &Design, text: &[u8]) -> Listing {
+    let (answer, output) = run_compile(text, &[0; 6000]);
+    let written = &output.inside()[..answer[2] as usize];
+    Listing::read(design, written).expect("a sound listing")
+}
+
+/// The call's listing is no dearer in its family's order than every rival: each member that gives the table.
+#[test]
+fn family_rivals() {
+    let mut seeded = Seeded::new(63);
+    for n in 1..=INPUTS {
+        for k in 0..=n.min(3) {
+            let class = Class::new(n, k);
+            for _ in 0..12 {
+                let m = seeded.within(1, 8);
+                let design = Design::block(n, m, k, any_table(&mut seeded, n, m));
+                for family in Family::ALL {
+                    let design = design.clone().of_family(family);
+                    let ours = family.order(listed(&design, &design.text()).counted());
+                    let order = |rival| family.order(rival);
+                    assert!(class.rivals(&design.table).all(|rival| ours <= order(rival.cost)));
+                }
+            }
+        }
+    }
+}
+
+/// Texts of family two of every n and k, with tables of each sort.
+#[test]
+fn family_texts_of_every_size() {
+    let mut seeded = Seeded::new(64);
+    for n in 1..=8usize {
+        for k in 0..=n.min(3) {
+            for table in [any_table, random_table] {
+                let m = seeded.within(1, 8);
+                let design = Design::block(n, m, k, table(&mut seeded, n, m));
+                check_text(&mut seeded, &design.of_family(Family::Two).text());
+            }
+        }
+    }
+}
+
+/// First words around `table` and `table2`, with every kind of k.
+#[test]
+fn words_around() {
+    let mut seeded = Seeded::new(65);
+    for end in WORD_ENDS {
+        for stem in ["table", "Table", "tabl", "form", ""] {
+            for (n, k) in [(2, "1"), (2, "-"), (2, "K"), (9, "1"), (9, "K"), (2, "3"), (2, "x")] {
+                let text = format!("{stem}{end}\t{n}\t2\t{k}\non\t3\t01\nend\n");
+                check_text(&mut seeded, text.as_bytes());
+            }
+        }
+    }
+    for _ in 0..1500 {
+        let (_, text) = sound_text(&mut seeded, 3);
+        let changed = with_other_word(&mut seeded, &text);
+        check_text(&mut seeded, &changed);
+    }
+}
+
+/// Family two with damage, and with a `K` somewhere.
+#[test]
+fn damaged_family_texts() {
+    let mut seeded = Seeded::new(66);
+    for round in 0..3000 {
+        let (_, text) =
+            sound_text_of(&mut seeded, Family::Two, if round % 50 == 0 { 6 } else { 3 });
+        let damage = [damaged_text, with_k_somewhere, with_other_word][round % 3];
+        let damaged = damage(&mut seeded, &text);
+        check_text(&mut seeded, &damaged);
     }
 }

@@ -1,8 +1,10 @@
-//! Times the program `rmform` on tables of eight inputs, at every k, beside the same method in C. What a run
-//! on empty input takes, the start of the process, is taken off. A program given as the argument, as an
-//! `rmform` of an earlier commit, is timed in the same run.
+//! Times the program `rmform` on tables of eight inputs, for both families and at every k, beside the same
+//! method in C. What a run on empty input takes, the start of the process, is taken off. A program given as the
+//! argument, as an `rmform` of an earlier commit, is timed in the same run, but for texts on which it writes
+//! something else.
 
 use outside_cases::c_search;
+use outside_cases::family::Family;
 use outside_cases::program::{self, run_at};
 use outside_cases::seeded::Seeded;
 use outside_cases::seeded::tables::{random_table, table_of};
@@ -19,8 +21,9 @@ fn milliseconds(design: &Design, programs: [&Path; 2]) -> [f64; 3] {
     let text = design.text();
     let (mut coefficients, mut blocks) = ([0; 1 << N], vec![0; 1 << (N - design.k())]);
     let mut search = || {
+        let (family, sizes) = (design.family, [N, design.m, design.k()]);
         let (table, filled) = (black_box(&design.table[..]), &mut coefficients);
-        c_search::minimise(N, design.m, design.k(), table, filled, &mut blocks, &mut [0; 6]);
+        c_search::minimise_for(family, sizes, table, filled, &mut blocks, &mut [0; 6]);
     };
     let run = |program: usize, input: &[u8]| {
         drop(black_box(run_at(programs[program], &[input], || ())));
@@ -46,14 +49,19 @@ fn main() {
     ];
     println!("milliseconds for a design of {N} inputs, without the start of the process");
     let more = before.as_ref().map_or("", |_| "\tbefore\trmform/before");
-    println!("table\tk\trmform\tC\trmform/C{more}");
+    println!("table\tfamily\tk\trmform\tC\trmform/C{more}");
     for (name, m, table) in tables {
-        for k in 0..=3 {
-            let design = Design::block(N, m, k, table.clone());
+        for (family, k) in Family::ALL.into_iter().flat_map(|f| (0..=3).map(move |k| (f, k))) {
+            let design = Design::block(N, m, k, table.clone()).of_family(family);
+            let written = [&rmform, other].map(|program| run_at(program, &[&design.text()], || ()));
+            assert!(written[0].starts_with(family.form_word().as_bytes()), "a listing is written");
             let [ours, theirs, c] = milliseconds(&design, [&rmform, other]);
-            print!("{name}\t{k}\t{ours:.2}\t{c:.2}\t{:.2}", ours / c);
+            print!("{name}\t{}\t{k}\t{ours:.2}\t{c:.2}\t{:.2}", family.number(), ours / c);
             match before {
-                Some(_) => println!("\t{theirs:.2}\t{:.2}", ours / theirs),
+                Some(_) if written[0] == written[1] => {
+                    println!("\t{theirs:.2}\t{:.2}", ours / theirs);
+                }
+                Some(_) => println!("\t-\t-"),
                 None => println!(),
             }
         }

@@ -1,9 +1,14 @@
-//! Times the minimising call beside the same method in C (`c/search.c`).
-//! Prints microseconds for a design, the C code's and the ratio, the best of several repeats.
+//! Times the minimising call, which keeps to family one, beside the same method in C (`c/search.c`); then the
+//! text call on texts of both families, beside the C code of each. The text call's time includes reading the
+//! text and writing the listing, which the C code does not do. Prints microseconds for a design, the C code's
+//! and the ratio, the best of several repeats.
 
 use outside_cases::calls::{self, MinimiseAnswer};
+use outside_cases::family::Family;
 use outside_cases::seeded::Seeded;
 use outside_cases::seeded::tables::{random_table, sparse_table, structured_table};
+use outside_cases::text::Design as Text;
+use outside_cases::text::listing::Listing;
 use outside_cases::timing::side_by_side;
 use outside_cases::{c_search, evaluator::places};
 use std::hint::black_box;
@@ -41,6 +46,44 @@ impl Design<'_> {
     }
 }
 
+/// Longer than every listing.
+const ROOM: usize = 6000;
+
+/// The M, i, products and literals that the C code finds for a text.
+fn in_c(text: &Text) -> [usize; 4] {
+    let (mut coefficients, mut blocks) =
+        (vec![0; places(text.n)], vec![0; places(text.n - text.k())]);
+    let (sizes, mut answer) = ([text.n, text.m, text.k()], [0; 6]);
+    let table = black_box(&text.table[..]);
+    c_search::minimise_for(text.family, sizes, table, &mut coefficients, &mut blocks, &mut answer);
+    [2, 3, 4, 5].map(|place| answer[place] as usize)
+}
+
+/// Seconds for the text call and for the C code.
+fn text_seconds(text: &Text) -> [f64; 2] {
+    let (written, mut output, mut answer) = (text.text(), [0; ROOM], [0; 3]);
+    calls::compile(&written, &mut output, &mut answer);
+    let listing = Listing::read(text, &output[..answer[2] as usize]).expect("a sound listing");
+    let Listing { mixed, fixed, stated, .. } = listing;
+    let found = [mixed, fixed, stated.products, stated.literals];
+    assert_eq!(found, in_c(text), "the two disagree");
+    let mut call = || calls::compile(black_box(&written), black_box(&mut output), &mut answer);
+    side_by_side(15, 8, [&mut call, &mut || assert!(black_box(in_c(text))[2] <= 256)])
+}
+
+/// The text call at eight inputs and outputs, for both families and at every k.
+fn texts(seeded: &mut Seeded) {
+    println!("family k sort\tmicroseconds\tC\tratio");
+    for (sort, maker) in SORTS {
+        let table = maker(seeded, 8, 8);
+        for (family, k) in Family::ALL.into_iter().flat_map(|f| (0..=3).map(move |k| (f, k))) {
+            let text = Text::block(8, 8, k, table.clone()).of_family(family);
+            let [call, c] = text_seconds(&text).map(|seconds| seconds * 1e6);
+            println!("{} {k} {sort}\t{call:.1}\t{c:.1}\t{:.2}", family.number(), call / c);
+        }
+    }
+}
+
 fn main() {
     let mut seeded = Seeded::new(1);
     println!("n m k sort\tmicroseconds\tC\tratio");
@@ -58,4 +101,5 @@ fn main() {
             }
         }
     }
+    texts(&mut seeded);
 }

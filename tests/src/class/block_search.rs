@@ -2,14 +2,16 @@
 
 use super::{Cost, Expansion, Member, fixed_polarities, mixed_sets};
 use crate::evaluator::{forward, holds, literals, number_of, places};
+use crate::family::Family;
 
-/// The first member in document 01's order that gives the table, for n up to 8. A block of a member has
+/// The first member in the family's order that gives the table, for n up to 8. A block of a member has
 /// the coefficients that its terms have in the fixed-polarity expansion with i outside M and the
 /// block's polarity in M, so each block is chosen among those expansions.
-pub fn least(n: usize, k: usize, table: &[u8]) -> Expansion {
+pub fn least(family: Family, n: usize, k: usize, table: &[u8]) -> Expansion {
     let expansions: Vec<Vec<u8>> = (0..places(n)).map(|w| forward(n, w, table)).collect();
-    let candidates = mixed_sets(n, k).map(|mixed| least_with(n, mixed, &expansions));
-    candidates.min_by_key(|e| (e.cost, e.member.mixed)).expect("there is a mixed set")
+    let candidates = mixed_sets(n, k).map(|mixed| least_with(family, n, mixed, &expansions));
+    let order = |e: &Expansion| (family.order(e.cost), e.member.mixed);
+    candidates.min_by_key(order).expect("there is a mixed set")
 }
 
 /// The polarities and the terms that go with one mixed set.
@@ -30,29 +32,30 @@ impl Blocks {
         Blocks { polarities: inside, terms }
     }
 
-    /// The least cost of each block under i, with the least polarity that has it.
-    fn choices(&self, fixed: usize, expansions: &[Vec<u8>]) -> Vec<(Cost, usize)> {
+    /// The least cost of each block under i, with the least polarity that has it. The literals of a block are
+    /// those of its terms, outside M too.
+    fn choices(&self, family: Family, fixed: usize, expansions: &[Vec<u8>]) -> Vec<(Cost, usize)> {
         let least = |terms: &Vec<(usize, usize)>| {
             let choices = self.polarities.iter().enumerate().map(|(phi, polarity)| {
                 let c = &expansions[fixed + polarity];
                 (terms.iter().map(|&(t, literals)| Cost::of_term(literals, c[t])).sum(), phi)
             });
-            choices.min().expect("there is a polarity")
+            let order = |&(cost, phi): &(Cost, usize)| (family.order(cost), phi);
+            choices.min_by_key(order).expect("there is a polarity")
         };
         self.terms.iter().map(least).collect()
     }
 }
 
 /// The least member with the mixed set M.
-fn least_with(n: usize, mixed: usize, expansions: &[Vec<u8>]) -> Expansion {
+fn least_with(family: Family, n: usize, mixed: usize, expansions: &[Vec<u8>]) -> Expansion {
     let blocks = Blocks::new(n, mixed);
-    let total =
-        |fixed| blocks.choices(fixed, expansions).iter().map(|choice| choice.0).sum::<Cost>();
+    let choices = |fixed| blocks.choices(family, fixed, expansions).into_iter();
+    let total = |fixed| choices(fixed).map(|(cost, _)| cost).sum();
     let fixed = fixed_polarities(n, mixed)
-        .min_by_key(|&fixed| (total(fixed), fixed))
+        .min_by_key(|&fixed| (family.order(total(fixed)), fixed))
         .expect("there is a fixed polarity");
-    let chosen: Vec<usize> =
-        blocks.choices(fixed, expansions).iter().map(|choice| choice.1).collect();
+    let chosen: Vec<usize> = choices(fixed).map(|(_, phi)| phi).collect();
     let mut coefficients = vec![0; places(n)];
     for (terms, &phi) in blocks.terms.iter().zip(&chosen) {
         for &(t, _) in terms {

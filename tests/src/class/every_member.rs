@@ -3,6 +3,7 @@
 use super::{Expansion, Member, fixed_polarities, is_of_a_member, mixed_sets};
 use crate::elimination::{Solved, eliminate};
 use crate::evaluator::{places, term_true};
+use crate::family::Family;
 
 /// Every member of the class for n inputs, k of them mixed, each solved by elimination (n up to 4).
 pub struct Class {
@@ -17,13 +18,19 @@ impl Class {
         Class { n, solved }
     }
 
-    /// The first member in document 01's order that gives the table.
-    pub fn least(&self, table: &[u8]) -> Expansion {
+    /// The expansions that give the table, one of each member.
+    pub fn rivals(&self, table: &[u8]) -> impl Iterator<Item = Expansion> {
         let expansion = |(member, solved): &(Member, Solved)| {
             Expansion::new(self.n, member.clone(), solved.coefficients(table))
         };
-        let all: Vec<Expansion> = self.solved.iter().map(expansion).collect();
-        let key = |e: &Expansion| (e.cost, e.member.mixed, e.member.fixed);
+        self.solved.iter().map(expansion)
+    }
+
+    /// The first of them in the family's order, then in document 01's: least M, then least i, then in each
+    /// block the least polarity.
+    pub fn least(&self, family: Family, table: &[u8]) -> Expansion {
+        let all: Vec<Expansion> = self.rivals(table).collect();
+        let key = |e: &Expansion| (family.order(e.cost), e.member.mixed, e.member.fixed);
         let first = all.iter().map(key).min().expect("a class is not empty");
         least_blocks(all.into_iter().filter(|e| key(e) == first).collect())
     }

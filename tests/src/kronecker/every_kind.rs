@@ -1,6 +1,6 @@
 //! The least expansion over every kind, with the coefficients found by elimination.
 
-use super::{Expansion, Letters, cube, every_letters};
+use super::{Expansion, Letters, cube, every_letters, order};
 use crate::elimination::{Solved, eliminate};
 use crate::evaluator::places;
 use crate::text::products::Product;
@@ -24,10 +24,9 @@ impl Kinds {
         self.solved.iter().map(expansion)
     }
 
-    /// The first of them in document 02's order: products, literals, letters from xn down.
+    /// The first of them in document 02's order.
     pub fn least(&self, table: &[u8]) -> Expansion {
-        let order = |e: &Expansion| (e.cost, e.letters.clone());
-        self.rivals(table).min_by_key(order).expect("there is a kind")
+        self.rivals(table).min_by_key(|e| order(e.cost, &e.letters)).expect("there is a kind")
     }
 }
 

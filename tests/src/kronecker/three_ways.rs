@@ -1,11 +1,10 @@
 //! The least expansion input by input, from xn down, each taken in the three ways.
 
-use super::{Expansion, Letter, Letters};
+use super::{Expansion, Letter, Letters, order};
 use crate::class::Cost;
 use crate::evaluator::{bit, inputs};
 
-/// The first expansion in document 02's order that gives the table, for n up to 8: products, literals,
-/// letters from xn down.
+/// The first expansion in document 02's order that gives the table, for n up to 8.
 pub fn least(n: usize, table: &[u8]) -> Expansion {
     let start: Vec<Term> = table.iter().map(|&byte| Term { byte, literals: 0 }).collect();
     let (_, letters) = least_with(n, Vec::new(), &start);
@@ -29,7 +28,8 @@ fn least_with(i: usize, letters: Letters, terms: &[Term]) -> (Cost, Letters) {
     }
     let with =
         |letter| least_with(i - 1, [&letters[..], &[letter]].concat(), &take(i, letter, terms));
-    Letter::ALL.into_iter().map(with).min().expect("there are three ways")
+    let ways = Letter::ALL.into_iter().map(with);
+    ways.min_by_key(|(cost, letters)| order(*cost, letters)).expect("there are three ways")
 }
 
 /// The places after xi is taken. Shannon's terms have the bytes where xi is 0 and where it is 1. A Davio

@@ -3,6 +3,7 @@
 //! space for each tab.
 
 use super::EXAMPLE;
+use super::families::{EXAMPLE_LISTING_TWO, EXAMPLE_TWO};
 use crate::calls::CheckAnswer;
 
 /// A table text, a listing, and the numbers of the answer.
@@ -122,7 +123,7 @@ pub const REFUSED_LISTINGS: [MarkedPair; 98] = [
     (EXAMPLE, b"form 2 2 1 1 2 2 2\r\nend\r\n", refused(11, 1)),
     (EXAMPLE, b"Form 2 2 1 1 2 2 2\nend\n", refused(11, 1)),
     (EXAMPLE, b"for 2 2 1 1 2 2 2\nend\n", refused(11, 1)),
-    (EXAMPLE, b"form2 2 2 1 1 2 2 2\nend\n", refused(11, 1)),
+    (EXAMPLE, b"form3 2 2 1 1 2 2 2\nend\n", refused(11, 1)),
     (EXAMPLE, b"kron 2 2 SS 2 2\nend\n", refused(11, 1)),
     (EXAMPLE, b"form 02 2 1 1 2 2 2\nend\n", refused(11, 1)),
     (EXAMPLE, b"form 2 02 1 1 2 2 2\nend\n", refused(11, 1)),
@@ -255,7 +256,7 @@ pub const KRONECKER: [MarkedPair; 36] = [
     (EXAMPLE_K, b"form 2 2 K 1 2 2 2\nend\n", refused(11, 1)),
     (EXAMPLE_K, b"form 2 2 K NN 2 2\nend\n", refused(11, 1)),
     (EXAMPLE_K, b"form 2 2 NN 2 2\nterm -- 10\nterm 00 11\nend\n", refused(11, 1)),
-    (EXAMPLE_K, b"form2 2 2 1 1 2 2 2\nend\n", refused(11, 1)),
+    (EXAMPLE_K, b"form3 2 2 1 1 2 2 2\nend\n", refused(11, 1)),
     (EXAMPLE_K, EXAMPLE_K, refused(11, 1)),
     // A `kron` listing, beside its own table too.
     (EXAMPLE_K, b"kron 2 2 NN 2 2\nterm -- 10\nterm 00 11\nend\n", refused(11, 1)),
@@ -273,9 +274,108 @@ pub const KRONECKER: [MarkedPair; 36] = [
     (b"table 2 2 K\nend\nend\n", b"kron 2 2 SS 0 0\nend\n", refused(6, 3)),
 ];
 
+/// The input x2 of two, for family two.
+const X2_TWO: &[u8] = b"table2 2 1 0\non 2 1\non 3 1\nend\n";
+
+/// A design on which the families choose differently, with the lines of each answer.
+const DIFFERS_ONE: &[u8] =
+    b"table 4 2 0\non 3 10\non 5 10\non 6 10\non 11 11\non 13 11\non 14 10\non 15 01\nend\n";
+const DIFFERS_TWO: &[u8] =
+    b"table2 4 2 0\non 3 10\non 5 10\non 6 10\non 11 11\non 13 11\non 14 10\non 15 01\nend\n";
+
+/// Pairs with a `table2` text or a `form2` listing.
+pub const FAMILIES: [MarkedPair; 66] = [
+    (EXAMPLE_TWO, EXAMPLE_LISTING_TWO, SAME),
+    // A listing of the other family.
+    (EXAMPLE_TWO, EXAMPLE_LISTING, refused(12, 1)),
+    (EXAMPLE, EXAMPLE_LISTING_TWO, refused(12, 1)),
+    // Cheap or not: the lines of the other family's answer, with the own word.
+    (
+        DIFFERS_ONE,
+        b"form 4 2 0 0 6 8 14\nterm ---- 10\nterm ---1 10\nterm --0- 10\nterm -0-- 10\nterm -00- 10\n\
+          term -001 10\nterm 1--1 01\nterm 1001 01\nend\n",
+        SAME,
+    ),
+    (
+        DIFFERS_TWO,
+        b"form2 4 2 0 0 0 7 19\nterm --11 10\nterm -1-1 10\nterm -11- 10\nterm -111 10\nterm 1-11 01\n\
+          term 11-1 01\nterm 1111 01\nend\n",
+        SAME,
+    ),
+    (EXAMPLE_TWO, b"form2 2 2 1 1 0 3 3\nterm -- 01\nterm -1 11\nterm 10 11\nend\n", SAME),
+    (b"table2 2 1 -\nend\n", b"form2 2 1 1 1 0 0 0\nend\n", SAME),
+    // The class and the points are judged as in family one.
+    (EXAMPLE_TWO, b"form2 2 2 1 1 0 2 2\nterm -- 10\nterm 00 11\nend\n", NOT_OF_CLASS),
+    (EXAMPLE_TWO, b"form2 2 2 1 3 0 0 0\nend\n", NOT_OF_CLASS),
+    (EXAMPLE_TWO, b"form2 2 2 1 1 2 2 2\nterm -- 10\nterm 00 10\nend\n", differs(0)),
+    (X2_TWO, b"form2 2 1 0 0 0 0 0\nend\n", differs(2)),
+    (X2_TWO, b"form2 2 1 0 0 1 1 1\nterm 1- 1\nend\n", SAME),
+    // The family is judged with n, m and k, before any later line is read.
+    (EXAMPLE, b"form2 2 2 1 1 2 2 2\nend\n", refused(12, 1)),
+    (EXAMPLE, b"form2 2 2 1 1 2 2 2\n", refused(12, 1)),
+    (EXAMPLE, b"form2 2 2 1 1 2 2 2\nx", refused(12, 1)),
+    (EXAMPLE, b"form2 2 2 1 1 2 2 2\nterm -- 00\nend\n", refused(12, 1)),
+    (EXAMPLE, b"form2 2 2 1 1 2 9 9\nend\nend\n", refused(12, 1)),
+    (EXAMPLE, b"form2 2 2 1 3 3 0 0\nend\n", refused(12, 1)),
+    (EXAMPLE_TWO, b"form 2 2 1 1 2 2 2\n", refused(12, 1)),
+    (EXAMPLE_TWO, b"form 2 2 1 1 2 2 2\nx", refused(12, 1)),
+    (EXAMPLE_TWO, b"form 2 2 1 1 2 9 9\nterm -- 00\nend\nend\n", refused(12, 1)),
+    (EXAMPLE_TWO, b"form 2 2 1 3 3 0 0\nend\n", refused(12, 1)),
+    (EXAMPLE, b"form2 3 2 1 1 2 2 2\nend\n", refused(12, 1)),
+    (EXAMPLE_TWO, b"form 9 9 9 1 2 2 2\n", refused(12, 1)),
+    (EXAMPLE_TWO, b"form2 3 2 1 1 2 2 2\nterm -- 10\nterm 00 11\nend\n", refused(12, 1)),
+    (EXAMPLE_TWO, b"form2 2 1 1 1 2 2 2\nx", refused(12, 1)),
+    (EXAMPLE_TWO, b"form2 2 2 2 3 0 2 2\nend\nend\n", refused(12, 1)),
+    (EXAMPLE_TWO, b"form2 2 2 9 1 2 2 2\n", refused(12, 1)),
+    // The grammar of line 1 comes before the family.
+    (EXAMPLE, b"form2 2 2 1 1 2 2 2", refused(11, 1)),
+    (EXAMPLE, b"form2 2 2 1 1 2 2\nend\n", refused(11, 1)),
+    (EXAMPLE, b"form2 02 2 1 1 2 2 2\nend\n", refused(11, 1)),
+    (EXAMPLE, b"form2 2 2 - 1 2 2 2\nend\n", refused(11, 1)),
+    (EXAMPLE_TWO, b"form 2 2 1 1 2 2 2", refused(11, 1)),
+    (EXAMPLE_TWO, b"form 2 2 K 1 2 2 2\nend\n", refused(11, 1)),
+    (EXAMPLE_TWO, b"form2 2 2 1 1 2 2 2 2\nend\n", refused(11, 1)),
+    // Words around `form2`, and other listings.
+    (EXAMPLE_TWO, b"form1 2 2 1 1 2 2 2\nend\n", refused(11, 1)),
+    (EXAMPLE_TWO, b"form3 2 2 1 1 2 2 2\nend\n", refused(11, 1)),
+    (EXAMPLE_TWO, b"form02 2 2 1 1 2 2 2\nend\n", refused(11, 1)),
+    (EXAMPLE_TWO, b"form20 2 2 1 1 2 2 2\nend\n", refused(11, 1)),
+    (EXAMPLE_TWO, b"form22 2 2 1 1 2 2 2\nend\n", refused(11, 1)),
+    (EXAMPLE_TWO, b"Form2 2 2 1 1 2 2 2\nend\n", refused(11, 1)),
+    (EXAMPLE_TWO, b"form2_ 2 2 1 1 2 2 2\nend\n", refused(11, 1)),
+    (EXAMPLE_TWO, b"form_2 2 2 1 1 2 2 2\nend\n", refused(11, 1)),
+    (EXAMPLE_TWO, b"form 2 2 2 1 1 2 2 2\nend\n", refused(11, 1)),
+    (EXAMPLE_TWO, b"table2 2 2 1 1 2 2 2\nend\n", refused(11, 1)),
+    (EXAMPLE_TWO, EXAMPLE_TWO, refused(11, 1)),
+    (EXAMPLE_TWO, b"", refused(11, 1)),
+    (EXAMPLE_TWO, b"kron 2 2 NN 2 2\nterm -- 10\nterm 00 11\nend\n", refused(11, 1)),
+    (EXAMPLE_TWO, b"kron2 2 2 NN 2 2\nterm -- 10\nterm 00 11\nend\n", refused(11, 1)),
+    // Later lines and counts are those of every listing.
+    (EXAMPLE_TWO, b"form2 2 2 1 1 2 2 2\n", refused(11, 2)),
+    (EXAMPLE_TWO, b"form2 2 2 1 1 2 2 2\nterm2 -- 10\nend\n", refused(11, 2)),
+    (EXAMPLE_TWO, b"form2 2 2 1 1 2 2 2\nterm 00 11\nterm -- 10\nend\n", refused(11, 3)),
+    (EXAMPLE_TWO, b"form2 2 2 1 1 2 2 2\nterm -- 10\nterm 00 11\nend\nend\n", refused(11, 5)),
+    (EXAMPLE_TWO, b"form2 2 2 1 1 2 3 2\nterm -- 10\nterm 00 11\nend\n", refused(12, 1)),
+    (EXAMPLE_TWO, b"form2 2 2 1 1 2 2 10\nterm -- 10\nterm 00 11\nend\n", refused(12, 1)),
+    // Beside a `K` table a listing of either family is of another kind.
+    (EXAMPLE_K, EXAMPLE_LISTING_TWO, refused(12, 1)),
+    (EXAMPLE_K, b"form2 2 2 1 1 2 2 2\nx", refused(12, 1)),
+    (EXAMPLE_K, b"form2 9999 9999 9 9999 9999 9999 9999\nend\n", refused(12, 1)),
+    (ZERO_K, b"form2 2 1 0 0 0 0 0\nend\n", refused(12, 1)),
+    (EXAMPLE_K, b"form2 2 2 1 1 2 2\nend\n", refused(11, 1)),
+    (EXAMPLE_K, b"form2 2 2 K 1 2 2 2\nend\n", refused(11, 1)),
+    // The table text is judged before the listing.
+    (b"table2 2 2 K\nend\n", EXAMPLE_LISTING_TWO, refused(1, 1)),
+    (b"table2 9 2 K\nend\n", b"kron 2 2 SS 0 0\nend\n", refused(1, 1)),
+    (b"table3 2 2 1\nend\n", b"form3 2 2 1 1 0 0 0\nend\n", refused(1, 1)),
+    (b"table2 9 2 1\nend\n", EXAMPLE_LISTING, refused(2, 1)),
+    (b"table2 2 2 1\nend\nend\n", EXAMPLE_LISTING_TWO, refused(6, 3)),
+];
+
 /// Every marked pair.
 pub fn all() -> impl Iterator<Item = MarkedPair> {
-    JUDGED.into_iter().chain(REFUSED_LISTINGS).chain(REFUSED_TABLES).chain(KRONECKER)
+    let refused = REFUSED_LISTINGS.into_iter().chain(REFUSED_TABLES);
+    JUDGED.into_iter().chain(refused).chain(KRONECKER).chain(FAMILIES)
 }
 
 #[cfg(test)]

@@ -2,14 +2,21 @@
 
 use super::Seeded;
 use super::tables::any_table;
+use crate::family::Family;
 use crate::text::Design;
 use std::ops::Range;
 
-/// A design of at most this many inputs for the block class, and its text.
+/// A design of either family for the block class, of at most this many inputs, and its text.
 pub fn sound_text(seeded: &mut Seeded, most_inputs: usize) -> (Design, Vec<u8>) {
+    let family = *seeded.pick(&Family::ALL);
+    sound_text_of(seeded, family, most_inputs)
+}
+
+/// The same, of this family.
+pub fn sound_text_of(seeded: &mut Seeded, family: Family, most_inputs: usize) -> (Design, Vec<u8>) {
     let n = seeded.within(1, most_inputs);
     let (m, k) = (seeded.within(1, 8), seeded.below(n.min(3) + 1));
-    let design = Design::block(n, m, k, any_table(seeded, n, m));
+    let design = Design::block(n, m, k, any_table(seeded, n, m)).of_family(family);
     let dashed = k == 1 && seeded.once_in(2);
     let text = if dashed { design.text_with("-") } else { design.text() };
     (design, text)
@@ -45,6 +52,22 @@ pub fn with_k_somewhere(seeded: &mut Seeded, text: &[u8]) -> Vec<u8> {
         changed[place] = b'K';
     } else {
         edit_lines(seeded, &mut changed, |seeded, lines| change_field(seeded, lines, &K_FIELDS));
+    }
+    changed
+}
+
+/// What stands after `table` in the first words of texts, and after `form` in those of listings, or nearly so.
+pub const WORD_ENDS: [&str; 14] =
+    ["", "2", "1", "3", "02", "20", "22", "2 ", " 2", "2\t", "\t2", "-2", "K", "2K"];
+
+/// A text or listing whose first word has one of `WORD_ENDS`, and once in eight draws a capital.
+pub fn with_other_word(seeded: &mut Seeded, text: &[u8]) -> Vec<u8> {
+    let end = text.iter().position(|&byte| byte == b'\t').unwrap_or(text.len());
+    let (word, rest) = text.split_at(end);
+    let stem = word.strip_suffix(b"2").unwrap_or(word);
+    let mut changed = [stem, seeded.pick(&WORD_ENDS).as_bytes(), rest].concat();
+    if seeded.once_in(8) {
+        changed[0].make_ascii_uppercase();
     }
     changed
 }

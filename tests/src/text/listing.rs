@@ -1,11 +1,12 @@
-//! Listings of the block class, whose first word is `form`: written from an expansion, and read back from
-//! their own lines.
+//! Listings of the block class, whose first word is `form` or `form2`: written from an expansion, and read
+//! back from their own lines.
 
 use super::fields::{Line, Lines, read_digit, read_number};
 use super::products::{Product, counted, term_lines, value};
 use super::{Design, Kind};
 use crate::class::{Cost, Expansion};
 use crate::evaluator::{Refusal, complemented, holds, inputs, places};
+use crate::family::Family;
 
 /// `1` for a plain literal of xi, `0` for a complemented one.
 fn literal_character(polarity: usize, i: usize) -> u8 {
@@ -21,6 +22,7 @@ pub fn cube_field(n: usize, t: usize, polarity: usize) -> String {
 /// A listing as its own lines give it.
 #[derive(Clone, Debug, PartialEq, Eq)]
 pub struct Listing {
+    pub family: Family,
     pub n: usize,
     pub m: usize,
     pub k: usize,
@@ -34,7 +36,7 @@ pub struct Listing {
 impl Listing {
     /// The listing of an expansion of a design.
     pub fn of(design: &Design, expansion: &Expansion) -> Self {
-        let (n, m, k) = (design.n, design.m, design.k());
+        let (family, n, m, k) = (design.family, design.n, design.m, design.k());
         let Expansion { member, coefficients, cost } = expansion;
         let product = |t: usize| Product {
             cube: cube_field(n, t, member.polarity(n, t)).into_bytes(),
@@ -42,14 +44,15 @@ impl Listing {
         };
         let products = (0..places(n)).filter(|&t| coefficients[t] != 0).map(product).collect();
         let (mixed, fixed) = (member.mixed, member.fixed);
-        Listing { n, m, k, mixed, fixed, stated: *cost, products }
+        Listing { family, n, m, k, mixed, fixed, stated: *cost, products }
     }
 
     /// The first line, with its byte 10.
     pub fn first_line(&self) -> String {
         let Listing { n, m, k, mixed, fixed, stated, .. } = self;
+        let word = self.family.form_word();
         let counts = format!("{}\t{}", stated.products, stated.literals);
-        format!("form\t{n}\t{m}\t{k}\t{mixed}\t{fixed}\t{counts}\n")
+        format!("{word}\t{n}\t{m}\t{k}\t{mixed}\t{fixed}\t{counts}\n")
     }
 
     /// All lines.
@@ -58,13 +61,14 @@ impl Listing {
         [self.first_line().as_bytes(), &terms, b"end\n"].concat()
     }
 
-    /// Reads a listing beside the design of its table text. 12, line 1, where n, m or the kind of k is not
-    /// the design's, before any later line is read; 11 at the first line that is bad otherwise.
+    /// Reads a listing beside the design of its table text. 12, line 1, where the family, n, m or the kind of
+    /// k is not the design's, before any later line is read; 11 at the first line that is bad otherwise.
     pub fn read(design: &Design, bytes: &[u8]) -> Result<Self, Refusal> {
         let mut lines = Lines::new(bytes);
         let first = next_line(&mut lines)?;
         let mut listing = Listing::read_first(&first).ok_or(first.refusal(11))?;
-        if (listing.n, listing.m, Kind::Block(listing.k)) != (design.n, design.m, design.kind) {
+        let own = (listing.family, listing.n, listing.m, Kind::Block(listing.k));
+        if own != (design.family, design.n, design.m, design.kind) {
             return Err(first.refusal(12));
         }
         loop {
@@ -82,12 +86,14 @@ impl Listing {
         }
     }
 
-    /// `form`, n, m, k, M, i, products, literals.
+    /// `form` or `form2`, n, m, k, M, i, products, literals.
     fn read_first(line: &Line) -> Option<Self> {
-        let [b"form", numbers @ ..] = &line.fields[..] else { return None };
-        let [n, m, k, mixed, fixed, products, literals] = numbers else { return None };
+        let [word, n, m, k, mixed, fixed, products, literals] = line.fields[..] else {
+            return None;
+        };
         let number = |field| read_number(field, 4);
         Some(Listing {
+            family: Family::of_word(Family::form_word, word)?,
             n: number(n)?,
             m: number(m)?,
             k: read_digit(k)?,
