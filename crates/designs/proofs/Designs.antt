@@ -46,7 +46,7 @@ use Rattle.table_texts.specs.Read.{withDesign, judgedFirst, allLines, reading}
 use Rattle.text.specs.Compile.{answerListing}
 use Rattle.text.specs.Print.{refusedLine, printedFor, printed}
 use Rattle.designs.specs.Designs.{costOf, termsBelow, computed, Design, states, Holds, markedDesigns}
-use Rattle.designs.specs.Designs.{orTable, zeroTable, oneTable, pointTable, withoutTable, printedTable, splitTable, plainTable, endsTable, oneOfThreeTable}
+use Rattle.designs.specs.Designs.{orTable, zeroTable, oneTable, pointTable, withoutTable, printedTable, splitTable, plainTable, endsTable, oneOfThreeTable, familiesTable, tieTable}
 
 -- ---- the test
 
@@ -75,7 +75,7 @@ all-hold (e ∷ ds) t d m = go (all-hold ds (and-right (agrees e) (allAgree ds) 
 
 all-agree : T (allAgree markedDesigns)
 unfolding same agrees allAgree markedDesigns computed termsBelow orTable zeroTable oneTable pointTable withoutTable printedTable
-    splitTable plainTable endsTable oneOfThreeTable
+    splitTable plainTable endsTable oneOfThreeTable familiesTable tieTable
     foldBelow inside pack only tabulate tableRefusal sizesRefusal onesIn ones xorInside coefficient entry
     putDigit lowDigit dropDigit gather spread outside join polarity counted weight products literals better firstLeast chosen
     blockFunction memberCoefficient blockCharge leastPolarity pairCharge validPair leastPair

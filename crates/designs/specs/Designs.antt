@@ -1,7 +1,7 @@
 -- Document 01, "Marked designs", its printed example, the limits that it names and some worked texts and listings, with designs for document 02's
--- `K` and texts for its `table2`, as one table: "The marked designs form one proved table over the definitions with a shared statement". A row is a question about the
--- definitions and the numbers that answer it; bytes are numbers too. The one statement is that they are equal, at every row (proofs/Designs,
--- `designs-hold`).
+-- `K` and for its two families, as one table: "The marked designs form one proved table over the definitions with a shared statement". A row is a
+-- question about the definitions and the numbers that answer it; bytes are numbers too. The one statement is that they are equal, at every row
+-- (proofs/Designs, `designs-hold`).
 use mathlib.Core.List.{List, [], _∷_, _++_}
 use mathlib.Core.Path.{_≡_}
 use Prim.Native.Nat.{ℕ, zero, suc, _^_}
@@ -33,6 +33,8 @@ use Rattle.text.specs.Print.{printed}
 pub data Asked : Type 0 where
   -- the terms of a table of n inputs at the polarity w
   termsAt : (n w : ℕ) → List ℕ → Asked
+  -- how many terms these are, and their literals: the products and the literals of the fixed-polarity expansion
+  costAt : (n w : ℕ) → List ℕ → Asked
   -- entry (g, φ) of the block table
   entryAt : (g φ : ℕ) → Asked
   -- M, i, products and literals of the family's answer for a table of n inputs with k mixed
@@ -97,6 +99,7 @@ meaning (refused number line) = refusal number line
 -- the numbers that the definitions give
 unfoldable pub computed : Asked → List ℕ
 computed (termsAt n w table) = termsBelow (2 ^ n) (coefficient n w (at table))
+computed (costAt n w table) = products n (coefficient n w (at table)) ∷ literals n (coefficient n w (at table)) ∷ []
 computed (entryAt g φ) = entry g φ ∷ []
 computed (answerFor F n k table) = answerMixed F n k (at table) ∷ answerFixed F n k (at table) ∷ costs F n k table
 computed (costOf F n k table) = costs F n k table
@@ -197,6 +200,23 @@ endsTable = 1 ∷ 0 ∷ 0 ∷ 0 ∷ 0 ∷ 0 ∷ 0 ∷ 2 ∷ []
 -- exactly one of three inputs
 unfoldable pub oneOfThreeTable : List ℕ
 oneOfThreeTable = 0 ∷ 1 ∷ 1 ∷ 0 ∷ 1 ∷ 0 ∷ 0 ∷ 0 ∷ []
+
+-- exactly two of x1, x2, x3 on output 0, and x1 and x4 with x2 or x3 on output 1 (n = 4): the families choose differently
+unfoldable pub familiesTable : List ℕ
+familiesTable = 0 ∷ 0 ∷ 0 ∷ 1 ∷ 0 ∷ 1 ∷ 1 ∷ 0 ∷ 0 ∷ 0 ∷ 0 ∷ 3 ∷ 0 ∷ 3 ∷ 1 ∷ 2 ∷ []
+
+-- its text for family two
+abbrev pub familiesText : String
+familiesText = "table2\t4\t2\t0\non\t3\t10\non\t5\t10\non\t6\t10\non\t11\t11\non\t13\t11\non\t14\t10\non\t15\t01\nend\n"
+
+-- and the listing that the evaluator writes for it
+abbrev pub familiesListing : String
+familiesListing =
+    "form2\t4\t2\t0\t0\t6\t8\t14\nterm\t----\t10\nterm\t---1\t10\nterm\t--0-\t10\nterm\t-0--\t10\nterm\t-00-\t10\nterm\t-001\t10\nterm\t1--1\t01\nterm\t1001\t01\nend\n"
+
+-- a table of four inputs on which two expansions have the least charge of family two
+unfoldable pub tieTable : List ℕ
+tieTable = 0 ∷ 0 ∷ 0 ∷ 1 ∷ 0 ∷ 1 ∷ 1 ∷ 1 ∷ 0 ∷ 2 ∷ 0 ∷ 0 ∷ 0 ∷ 0 ∷ 1 ∷ 0 ∷ []
 
 -- the listing of one product of four inputs
 abbrev pub fourListing : String
@@ -320,6 +340,17 @@ markedDesigns =
     ∷ states (meaningOf "table3\t2\t1\t1\nend\n") (refusal 1 1)
     ∷ states (meaningOf "table02\t2\t1\t1\nend\n") (refusal 1 1)
     ∷ states (meaningOf "Table2\t2\t1\t1\nend\n") (refusal 1 1)
+    -- family one takes 7 products with 19 literals, whose charge is 4 * 7 + 19 = 47; family two 8 with 14, whose charge is 46
+    ∷ states (answerFor One 4 0 familiesTable) (0 ∷ 0 ∷ 7 ∷ 19 ∷ [])
+    ∷ states (answerFor Two 4 0 familiesTable) (0 ∷ 6 ∷ 8 ∷ 14 ∷ [])
+    -- family two from its text to its listing, byte for byte, and what the listing says
+    ∷ states (printedOf familiesText) (bytes familiesListing)
+    ∷ states (countsOf familiesListing) (8 ∷ 14 ∷ [])
+    ∷ states (tableOf 4 familiesListing) familiesTable
+    -- 7 products with 18 literals and 8 with 14 have the charge 46 alike: "among equal charges by fewest products"; by 3 × products the other would be
+    -- taken, 38 against 39
+    ∷ states (answerFor Two 4 0 tieTable) (0 ∷ 0 ∷ 7 ∷ 18 ∷ [])
+    ∷ states (costAt 4 6 tieTable) (8 ∷ 14 ∷ [])
     -- the printed example's record, its listing, and what the listing says
     ∷ states (listingOf One 2 2 1 (recorded (1 ∷ 0 ∷ 0 ∷ 3 ∷ []) (0 ∷ 1 ∷ []) 1 2 2 2)) (bytes printedListing)
     ∷ states (firstLineOf printedListing) (2 ∷ 2 ∷ 1 ∷ 1 ∷ 2 ∷ 2 ∷ 2 ∷ [])
