@@ -1,5 +1,5 @@
-// The reading call and the text call. The reading call's answer is seven numbers: the refusal's number and its line, n, m, k, the kind of k and the
-// family. The text call's answer is three: the refusal's number and its line, and the listing's length.
+// The reading call and the text call. The reading call's answer is seven numbers: the refusal's number and its line, n, m, k, the kind of k and
+// the family. The text call's answer is three: the refusal's number and its line, and the listing's length.
 use expansions::families::Family;
 use expansions::kinds::Kind;
 use table_texts::read::ReadAnswer;

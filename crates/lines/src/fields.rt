@@ -1,4 +1,5 @@
-// The fields of a line, which are parted by one tab, whether they are words, and the family that the first word says. A field is a part of its line; a line comes without its byte 10.
+// The fields of a line, which are parted by one tab, whether they are words, and the family that the first word says. A field is a part of its
+// line; a line comes without its byte 10.
 use crate::cursor::Cursor;
 use expansions::families::Family;
 ghost use mathlib.Core.Path.{_≡_};

@@ -1,6 +1,6 @@
-// Lines: what those of a table text and of a listing have alike. The first word says the family. Of the lines after the first, the main property: `judge_rows` gives the values that the
-// lines say, or the first refusal (`laterLines` in specs/Rows.antt); and lines are taken exactly where they are the lines written for values
-// (proofs/LineKinds, for both kinds of line).
+// Lines: what those of a table text and of a listing have alike. The first word of the first line says the family. The main property, of the lines
+// after the first: `judge_rows` gives the values that the lines say, or the first refusal (`laterLines` in specs/Rows.antt); and lines are taken
+// exactly where they are the lines written for values (proofs/LineKinds, for both kinds of line).
 pub mod cursor;
 pub mod fields;
 pub mod judge;

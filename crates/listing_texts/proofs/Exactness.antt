@@ -1,6 +1,6 @@
 -- Which listings pass beside a table. A listing that is read is the listing that is written for what was read (`listing-read`), and the listing of
 -- any terms is read as these terms (`listing-written`). So just these pass (`passes-exactly`).
-use mathlib.Core.Bool.{Bool, true, false, cond, _&&_}
+use mathlib.Core.Bool.{Bool, true, false, cond}
 use mathlib.Core.List.{List, [], _∷_, _++_, map, append-assoc}
 use mathlib.Core.Logic.{_↔_}
 use mathlib.Core.Path.{_≡_, refl, sym, ap, ap₂, _∙_}

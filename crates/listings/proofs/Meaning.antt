@@ -30,7 +30,8 @@ use Rattle.search.specs.declared.expansion.Expansion.{Expansion}
 use Rattle.expansions.proofs.Counted.{counted-none, counted-some}
 use Rattle.expansions.proofs.Costs.{products-le}
 use Rattle.listings.specs.Parts.{parts, bytes, same, fields}
-use Rattle.listings.specs.Listing.{tabbed, line, digitCount, decimal, cubeByte, cube, outputBytes, numbersOf, formWord, formLine, cubeLine, cubeLines, printedCubes, listingAfter, listingWith, listing}
+use Rattle.listings.specs.Listing.{tabbed, line, digitCount, decimal, cubeByte, cube, outputBytes, numbersOf}
+use Rattle.listings.specs.Listing.{formWord, formLine, cubeLine, cubeLines, printedCubes, listingAfter, listingWith, listing}
 use Rattle.listings.specs.inner.Listable.{Listable}
 use Rattle.listings.specs.Meaning.{cubeTrue, literalsIn, outputsSaid, finished, linesOf, ofTerm, overLines, overTerms}
 use Rattle.listings.specs.Meaning.{listingValue, listingProducts, listingLiterals, listingCubes, numberSaid, firstNumbers, statedProducts, statedLiterals}

@@ -28,8 +28,8 @@ pub struct Design {
     pub family: Family,
 }
 
-// The refusal of a design: 1 where family two is asked for `K`, then that of its table, then 4 where k is a number above 3 or above n; and 0 where there
-// is none.
+// The refusal of a design: 1 for `K` with family two, then that of its table, then 4 where k is a number above 3 or above n; and 0 where there is
+// none.
 pub fn judge_design(design: Design) -> usize
     ensures { λ r. ⌜ r ≡ designRefusal design ⌝ }
 {
