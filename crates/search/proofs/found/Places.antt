@@ -27,7 +27,8 @@ use Rattle.expansions.proofs.Answers.{only-ext, answer-member, answer-polarity-
 use Rattle.lanes.proofs.expand.Held.{held-plane, held-polarity}
 
 module _ (s : Sizes) (f : ℕ → ℕ) (lanes : List ℕ) (limits : Limits s) (outputs : (p : ℕ) → p < 2 ^ s .n → f p < 2 ^ 8)
-    (held : lanes ≡ blockLanes (s .n) (s .k) (answerMixed (s .family) (s .n) (s .k) f) (gather (s .n) (outside (s .n) (answerMixed (s .family) (s .n) (s .k) f)) (answerFixed (s .family) (s .n) (s .k) f)) f) where
+    (held : lanes ≡ blockLanes (s .n) (s .k) (answerMixed (s .family) (s .n) (s .k) f)
+    (gather (s .n) (outside (s .n) (answerMixed (s .family) (s .n) (s .k) f)) (answerFixed (s .family) (s .n) (s .k) f)) f) where
   member : Member (s .n) (s .k) (answerMixed (s .family) (s .n) (s .k) f) (answerFixed (s .family) (s .n) (s .k) f) (answerPolarity (s .family) (s .n) (s .k) f)
   member = answer-member (s .family) (s .n) (s .k) f (limits .within)
 
