@@ -3,7 +3,7 @@
 -- (`literals-apart`), so that under a rule by which a product weighs more than four literals a lesser sum stands for a lesser charge
 -- (`usedCharge-lt`), and the first least of the polarities by their small sums is the first least by their charges (`leastPolarity-sums`).
 use mathlib.Core.Path.{_≡_, refl, sym, ap, ap₂, _∙_}
-use Prim.Native.Nat.{ℕ, zero, suc, _+_, _*_, _/_, _%_, _^_, _≤_, _<_}
+use Prim.Native.Nat.{ℕ, zero, suc, _+_, _*_, _^_, _≤_, _<_}
 use native.Mathlib.Nat.{mul-add, add-mul, mul-assoc, mul-comm, mul-le-mul, mul-le-mul-right, suc-mul, one-mul, le-of-suc-le-suc}
 use native.Mathlib.Decide.{decLt}
 use native.Mathlib.Omega.{arith}

@@ -1,5 +1,6 @@
--- The rules by which the part families charge. Document 02, W-203: "The cost of a block is now a charge under a stated rule". What the charge means is
--- said in words beside it, by `costOf` and `tieOf`, and proofs/Rules has the laws that join the two (`charge-cost`, `charge-counts`).
+-- The rules by which the part families charge. Document 02, W-203: "The cost of a block is now a charge under a stated rule". First what each family
+-- compares, in words; then the same as one number, a sum over the products. That the number says the same, and that products and literals are had back
+-- from it, are the laws `charge-cost`, `charge-products` and `charge-literals` of proofs/Costs.
 use Prim.Native.Nat.{ℕ, _+_, _-_, _*_, _/_, _%_, _≤_}
 use mathlib.Core.Path.{_≡_}
 use Rattle.expansions.specs.declared.families.Family.{Family}

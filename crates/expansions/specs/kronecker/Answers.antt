@@ -3,7 +3,7 @@
 -- `kronecker-answer-is`, `kronecker-answer-only`).
 use mathlib.Core.Bool.{true}
 use mathlib.Core.Path.{_≡_}
-use Prim.Native.Nat.{ℕ, zero, suc, _^_, _≤_}
+use Prim.Native.Nat.{ℕ, zero, suc, _^_}
 use lib.Dec.{ltb}
 use Rattle.numbers.specs.Tests.{only}
 use Rattle.expansions.specs.Costs.{products}

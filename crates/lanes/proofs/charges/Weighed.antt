@@ -1,6 +1,6 @@
 -- What a small sum stands for, as code computes it from the two weights of a family's rule: it is the charge (`weighed-is`), and no part of it is
 -- above 200,000 (`outside-le`, `products-le`, `weighed-le`).
-use mathlib.Core.Path.{_≡_, ap₂, _∙_}
+use mathlib.Core.Path.{_≡_}
 use Prim.Native.Nat.{ℕ, _+_, _*_, _/_, _≤_, _<_}
 use native.Mathlib.Nat.{mul-le-mul}
 use native.Mathlib.Omega.{arith}
