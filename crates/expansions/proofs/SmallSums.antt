@@ -4,7 +4,7 @@
 -- (`usedCharge-lt`), and the first least of the polarities by their small sums is the first least by their charges (`leastPolarity-sums`).
 use mathlib.Core.Path.{_≡_, refl, sym, ap, ap₂, _∙_}
 use Prim.Native.Nat.{ℕ, zero, suc, _+_, _*_, _^_, _≤_, _<_}
-use native.Mathlib.Nat.{mul-add, add-mul, mul-assoc, mul-comm, mul-le-mul, mul-le-mul-right, suc-mul, one-mul, le-of-suc-le-suc}
+use native.Mathlib.Nat.{mul-add, add-mul, mul-assoc, mul-comm, mul-le-mul, mul-le-mul-right, suc-mul, one-mul, mul-one, le-of-suc-le-suc}
 use native.Mathlib.Decide.{decLt}
 use native.Mathlib.Omega.{arith}
 use lib.Arith.{digits-div, digits-mod}
@@ -56,14 +56,19 @@ literals-le u =
           omega (arith, mul-le-mul-right (literalCount t) (le-of-suc-le-suc (bit-lt t u)), one-mul (literalCount t))),
     )
 
-parts : (w u : ℕ) → u < 2 ^ 8 → sumBelow 8 (λ t. bit t u * (w + literalCount t)) ≡ ones u * w + literalsOf u
-parts w u h =
-    fold-ext _+_ 8 _ _ (λ t l. mul-add (bit t u) w (literalCount t)) ∙ sum-digits 8 w (λ t. bit t u) (λ t. bit t u * literalCount t)
-    ∙ ap (λ (x : ℕ). x * w + literalsOf u) (ones-bits 8 u h)
+-- where each product counts A and each literal B
+parts : (A B u : ℕ) → u < 2 ^ 8 → sumBelow 8 (λ t. bit t u * (A + literalCount t * B)) ≡ ones u * A + literalsOf u * B
+parts A B u h =
+    fold-ext _+_ 8 _ _
+    (λ t l. mul-add (bit t u) A (literalCount t * B) ∙ ap (λ (x : ℕ). bit t u * A + x) (sym (mul-assoc (bit t u) (literalCount t) B)))
+    ∙ sum-digits 8 A (λ t. bit t u) (λ t. bit t u * literalCount t * B)
+    ∙ ap₂ (λ (x y : ℕ). x * A + y) (ones-bits 8 u h) (sum-scaled 8 B (λ t. bit t u * literalCount t))
 
 smallSum-parts : (u : ℕ) → u < 2 ^ 8 → smallSum u ≡ ones u * 16 + literalsOf u
 unfolding sumTo
-smallSum-parts u h = parts 16 u h
+smallSum-parts u h =
+    fold-ext _+_ 8 _ _ (λ t l. ap (λ (x : ℕ). bit t u * (16 + x)) (sym (mul-one (literalCount t)))) ∙ parts 16 1 u h
+    ∙ ap (λ (x : ℕ). ones u * 16 + x) (mul-one (literalsOf u))
 
 pub smallSum-le : (u : ℕ) → u < 2 ^ 8 → smallSum u ≤ 140
 smallSum-le u h = omega (arith, smallSum-parts u h, ones-le 8 u h, literals-le u)
@@ -90,10 +95,7 @@ module _ (R : Rule) (more : ℕ) where
   usedCharge-parts : (u : ℕ) → u < 2 ^ 8 → usedCharge R more u ≡ ones u * weight R more + literalsOf u * R .literal
   unfolding usedCharge byteCharge weight
   usedCharge-parts u h =
-      let each : byteCharge R u ≡ ones u * R .product + literalsOf u * R .literal =
-      fold-ext _+_ 8 _ _ (λ t l. mul-add (bit t u) (R .product) (literalCount t * R .literal) ∙ ap (λ (x : ℕ). bit t u * R .product + x) (sym (mul-assoc (bit t u) (literalCount t) (R .literal))))
-      ∙ sum-digits 8 (R .product) (λ t. bit t u) (λ t. bit t u * literalCount t * R .literal)
-      ∙ ap₂ (λ (x y : ℕ). x * R .product + y) (ones-bits 8 u h) (sum-scaled 8 (R .literal) (λ t. bit t u * literalCount t)) in
+      let each : byteCharge R u ≡ ones u * R .product + literalsOf u * R .literal = parts (R .product) (R .literal) u h in
       omega (arith, each, mul-add (ones u) (R .product) (more * R .literal), mul-comm (ones u) (more * R .literal))
 
   pub usedCharge-sum : (u : ℕ) → u < 2 ^ 8 → usedCharge R more u ≡ sumCharge R more (smallSum u)

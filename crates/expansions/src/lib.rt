@@ -1,5 +1,5 @@
-// The classes of expansions, in definitions and laws alone: members, what they cost, the order of answers, and the answer as a function. The
-// main property (proofs/Answers, proofs/kronecker/Answers): the function's result is the expansion that gives the table and comes first, and the
-// only one.
+// The classes of expansions, in definitions and laws: members, what they cost by the rule of each family, the order of answers, and the answer as a
+// function; and in code the kinds of k, and the part families with the weights of their rules. The main property (proofs/Answers,
+// proofs/kronecker/Answers): the function's result is the expansion that gives the table and comes first, and the only one.
 pub mod families;
 pub mod kinds;

@@ -1,6 +1,7 @@
 // The text call: it reads a table text, finds the cheapest expansion and writes its listing.
 // The main property, for every text and every buffer: the result and every byte of the buffer follow from what the text means, and where a
-// listing is written its own lines give every output of the table at every point, and no expansion of the class at that k is cheaper.
+// listing is written its own lines give every output of the table at every point, and no expansion of the class at that k is cheaper, as the
+// family of the text compares.
 use expansions::kinds::Kind;
 use kronecker::answer::find_kronecker;
 use listing_writing::form::write_listing;
