@@ -67,9 +67,9 @@ fn copy_places(places: &[u8; Expansion::PLACES], lent: &mut [u8])
     }
 }
 
-// Takes n, m, k and a table of 2^n bytes, and finds the first least member, as family one compares, that gives the table. It fills `coefficients`, 2^n bytes, and
-// `blocks`, 2^(n−k) bytes, and returns M, i, products and literals. Refuses n or m outside 1 to 8, k above 3 or above n, another length of
-// a buffer, and a byte with a bit at m or above.
+// Takes n, m, k and a table of 2^n bytes, and finds the first least member, as family one compares, that gives the table. It fills
+// `coefficients`, 2^n bytes, and `blocks`, 2^(n−k) bytes, and returns M, i, products and literals. Refuses n or m outside 1 to 8, k above 3
+// or above n, another length of a buffer, and a byte with a bit at m or above.
 pub fn minimise(
     n: usize,
     m: usize,
