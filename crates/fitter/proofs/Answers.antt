@@ -37,6 +37,7 @@ use Rattle.fitter.specs.declared.check.Checked.{Checked}
 use Rattle.fitter.specs.declared.check.Checked.the-variants.{Same, Differs, NotOfClass, Refused}
 use Rattle.fitter.specs.Differences.{firstDifference}
 use Rattle.fitter.specs.Check.{compared, judged, judgedKind, judgedDesign, checked, PrintsCubes, PrintsTable, LowestDifference, Answers, KroneckerAnswers, Check}
+use Rattle.fitter.proofs.Unlike.{unlike-refused}
 use Rattle.fitter.proofs.Bytes.{mixed-stated, fixed-stated, cubes-listed, value-listed, rows-shown}
 use Rattle.fitter.proofs.Differences.{difference-none, none-differ, difference-at, lowest-differs}
 
@@ -277,6 +278,7 @@ check-words text s r e =
       words = λ z table g.
           let sized = block-sized (blockDesign z) (z .k) refl (reading-accepted text (blockDesign z) table g .sized) in
           answers-words z table s sized r (e ∙ ap (λ (x : tables.Reading). checked x s) g);
+      unlike = λ z table g l none. e ∙ unlike-refused text s z table g l none;
       kronecker = λ d table g k.
           kronecker-words s r (e ∙ ap (λ (x : tables.Reading). checked x s) g ∙ ap (λ (x : Kind). judgedKind (d .family) (d .n) (d .m) x table s) k);
     }

@@ -105,4 +105,8 @@ pub record KroneckerAnswers (s : List ℕ) (r : Checked) : Type 0 where
 pub record Check (text s : List ℕ) (r : Checked) : Type 0 where
   pub answer : r ≡ checked (tables.reading text) s
   pub words : (z : Sizes) (table : List ℕ) → tables.reading text ≡ tables.given (blockDesign z) table → Answers z table s r
+  -- "n, m or k unlike the table's is 12 with line 1, before any later line is read"; "a listing of the other family than its table is 12, line 1":
+  -- whatever the later lines are
+  pub unlike : (z : Sizes) (table : List ℕ) → tables.reading text ≡ tables.given (blockDesign z) table → (l : FormListing s) → (l .form .sizes ≡ z → ⊥)
+      → r ≡ Refused 12 1
   pub kronecker : (d : Design) (table : List ℕ) → tables.reading text ≡ tables.given d table → d .kind ≡ Kronecker → KroneckerAnswers s r
