@@ -59,13 +59,13 @@ rule-literals Two p l hp hl =
 -- ---- what the search needs of them
 
 -- a literal weighs something, and a product without literals more than four literals
-pub record Steep (R : Rule) : Type 0 where
+pub record OutweighsFour (R : Rule) : Type 0 where
   pub some : 0 < R .literal
   pub four : 4 * R .literal < R .product
 
-pub rule-steep : (F : Family) → Steep (ruleOf F)
-rule-steep One = record { some = omega arith; four = omega arith }
-rule-steep Two = record { some = omega arith; four = omega arith }
+pub rule-outweighs : (F : Family) → OutweighsFour (ruleOf F)
+rule-outweighs One = record { some = omega arith; four = omega arith }
+rule-outweighs Two = record { some = omega arith; four = omega arith }
 
 -- the bounds of the two weights
 pub rule-small : (F : Family) → (ruleOf F .product ≤ 4096) × (ruleOf F .literal ≤ 512)

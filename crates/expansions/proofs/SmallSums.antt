@@ -19,7 +19,7 @@ use Rattle.expansions.specs.Answers.{leastPolarity}
 use Rattle.expansions.specs.inner.Charges.{literalCounts, literalCount, byteCharge, usedCharge, sumTo, smallSum, sumCharge}
 use Rattle.expansions.proofs.Costs.{sum-mono, sum-scaled, sum-digits}
 use Rattle.expansions.proofs.Minimal.{polarity-first, leastPolarity-alike}
-use Rattle.expansions.proofs.Rules.{Steep, weight-product}
+use Rattle.expansions.proofs.Rules.{OutweighsFour, weight-product}
 use Rattle.expansions.proofs.Charges.{literalCount-le}
 
 -- ---- term by term
@@ -104,14 +104,14 @@ module _ (R : Rule) (more : ℕ) where
       let few : literalsOf u < 16 = omega (arith, literals-le u) in
       usedCharge-parts u h ∙ sym (rw (smallSum-parts u h, digits-div (ones u) few, digits-mod (ones u) few))
 
-  usedCharge-lt : Steep R → (u v : ℕ) → u < 2 ^ 8 → v < 2 ^ 8 → smallSum u < smallSum v → usedCharge R more u < usedCharge R more v
-  usedCharge-lt steep u v hu hv h = rw (usedCharge-parts u hu, usedCharge-parts v hv) (go (decLt (ones u) (ones v)))
+  usedCharge-lt : OutweighsFour R → (u v : ℕ) → u < 2 ^ 8 → v < 2 ^ 8 → smallSum u < smallSum v → usedCharge R more u < usedCharge R more v
+  usedCharge-lt outweighs u v hu hv h = rw (usedCharge-parts u hu, usedCharge-parts v hv) (go (decLt (ones u) (ones v)))
     where
       go : Dec (ones u < ones v) → ones u * weight R more + literalsOf u * R .literal < ones v * weight R more + literalsOf v * R .literal
       go (yes l) =
           omega (
             arith,
-            steep .four,
+            outweighs .four,
             mul-le-mul-right (weight R more) l,
             suc-mul (ones u) (weight R more),
             weight-product R more,
@@ -121,11 +121,11 @@ module _ (R : Rule) (more : ℕ) where
       go (no l) =
           let same : ones u ≡ ones v = omega (arith, smallSum-parts u hu, smallSum-parts v hv, literals-le u, literals-le v) in
           let fewer : literalsOf u < literalsOf v = omega (arith, smallSum-parts u hu, smallSum-parts v hv) in
-          omega (arith, steep .some, ap (λ (x : ℕ). x * weight R more) same, mul-le-mul-right (R .literal) fewer, suc-mul (literalsOf u) (R .literal))
+          omega (arith, outweighs .some, ap (λ (x : ℕ). x * weight R more) same, mul-le-mul-right (R .literal) fewer, suc-mul (literalsOf u) (R .literal))
 
 -- ---- the first least polarity
 
-module _ (R : Rule) (steep : Steep R) (k more : ℕ) (sums used : ℕ → ℕ) (bytes : (φ : ℕ) → φ < 2 ^ k → used φ < 2 ^ 8)
+module _ (R : Rule) (outweighs : OutweighsFour R) (k more : ℕ) (sums used : ℕ → ℕ) (bytes : (φ : ℕ) → φ < 2 ^ k → used φ < 2 ^ 8)
     (e : (φ : ℕ) → φ < 2 ^ k → sums φ ≡ smallSum (used φ)) where
   charged : (φ : ℕ) → φ < 2 ^ k → sumCharge R more (sums φ) ≡ usedCharge R more (used φ)
   charged φ h = ap (sumCharge R more) (e φ h) ∙ sym (usedCharge-sum R more (used φ) (bytes φ h))
@@ -133,7 +133,7 @@ module _ (R : Rule) (steep : Steep R) (k more : ℕ) (sums used : ℕ → ℕ) (
   pub leastPolarity-sums : leastPolarity k sums ≡ leastPolarity k (λ φ. usedCharge R more (used φ))
   leastPolarity-sums =
       leastPolarity-alike k sums (λ φ. usedCharge R more (used φ))
-      (λ φ ψ h l c. usedCharge-lt R more steep (used φ) (used ψ) (bytes φ h) (bytes ψ l) (rw (← (e φ h), ← (e ψ l)) c))
+      (λ φ ψ h l c. usedCharge-lt R more outweighs (used φ) (used ψ) (bytes φ h) (bytes ψ l) (rw (← (e φ h), ← (e ψ l)) c))
       (λ φ ψ h l c. sym (charged φ h) ∙ ap (sumCharge R more) c ∙ charged ψ l)
 
   -- and the charge under it

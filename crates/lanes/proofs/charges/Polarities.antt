@@ -18,7 +18,7 @@ use Rattle.expansions.specs.Least.{better, firstLeast}
 use Rattle.expansions.specs.inner.Charges.{smallSum, sumCharge}
 use Rattle.expansions.specs.inner.Leading.{Leading}
 use Rattle.expansions.proofs.Least.{leading-take, leading-keep, leading-chosen}
-use Rattle.expansions.proofs.Rules.{rule-steep}
+use Rattle.expansions.proofs.Rules.{rule-outweighs}
 use Rattle.expansions.proofs.SmallSums.{smallSum-le, leastPolarity-sums, sumCharge-least}
 use Rattle.lanes.specs.inner.Charges.{usedAt, IsLeastSum, IsCheapest, chargeFrom}
 use Rattle.lanes.specs.declared.charges.LeastSum.{LeastSum}
@@ -121,8 +121,8 @@ module _ (F : Family) (lanes : ℕ → ℕ) (k j used sums more : ℕ) (least : 
       → IsCheapest k (chargeFrom F lanes j) (record { charge = charge; polarity = least .polarity })
   cheapest-sum charge e =
       record {
-        polarity = is .polarity ∙ leastPolarity-sums (ruleOf F) (rule-steep F) k (ones j) (bytes sums) (usedAt lanes j) used-small sum-of;
+        polarity = is .polarity ∙ leastPolarity-sums (ruleOf F) (rule-outweighs F) k (ones j) (bytes sums) (usedAt lanes j) used-small sum-of;
         charge =
             e ∙ ap₂ (sumCharge (ruleOf F)) em (is .sum)
-            ∙ sumCharge-least (ruleOf F) (rule-steep F) k (ones j) (bytes sums) (usedAt lanes j) used-small sum-of;
+            ∙ sumCharge-least (ruleOf F) (rule-outweighs F) k (ones j) (bytes sums) (usedAt lanes j) used-small sum-of;
       }

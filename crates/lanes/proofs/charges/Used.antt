@@ -47,7 +47,11 @@ pub usedAt-lt : (lanes : ℕ → ℕ) (j φ : ℕ) → φ < 8 → usedAt lanes j
 unfolding usedAt
 usedAt-lt lanes j φ h = entries-lt 8 φ (λ o. lanes (j * 8 + o)) h
 
-pub chargeFrom-le : (F : Family) (lanes : ℕ → ℕ) (j φ : ℕ) → j < 256 → φ < 8 → chargeFrom F lanes j φ ≤ 77824
+-- the most that a block costs in either family: eight products, each with at most three literals in the block and eight outside it
+abbrev pub mostCharge : ℕ
+mostCharge = 8 * (4096 + 11 * 512)
+
+pub chargeFrom-le : (F : Family) (lanes : ℕ → ℕ) (j φ : ℕ) → j < 256 → φ < 8 → chargeFrom F lanes j φ ≤ mostCharge
 chargeFrom-le F lanes j φ hj h =
     omega (arith, usedCharge-le (ruleOf F) (ones j) (usedAt lanes j φ) (ones-le 8 j hj) (usedAt-lt lanes j φ h), weight-small F 11)
 

@@ -1,5 +1,5 @@
--- What a small sum stands for, as code computes it from the two weights of a family's rule: it is the charge (`weighed-is`), and no part of it is
--- above 200,000 (`outside-le`, `products-le`, `weighed-le`).
+-- What a small sum stands for, as code computes it from the two weights of a family's rule: it is the charge (`weighed-is`), and it and its parts are
+-- small (`outside-le`, `product-le`, `products-le`, `weighed-le`).
 use mathlib.Core.Path.{_≡_}
 use Prim.Native.Nat.{ℕ, _+_, _*_, _/_, _≤_, _<_}
 use native.Mathlib.Nat.{mul-le-mul}
@@ -28,7 +28,7 @@ module _ (F : Family) (more sum product literal : ℕ) (ep : product ≡ ruleOf 
     pub products-le : sum / 16 * (product + more * literal) ≤ 15 * 8192
     products-le = let few : sum / 16 ≤ 15 = omega arith in mul-le-mul few product-le
 
-    pub weighed-le : weighed ≤ 200000
+    pub weighed-le : weighed ≤ 15 * 8192 + 15 * 512
     weighed-le =
         let few : bitAnd sum 15 ≤ 15 = omega (arith, mask-lt sum 4) in
         let small : literal ≤ 512 = omega (arith, el, rule-small F) in

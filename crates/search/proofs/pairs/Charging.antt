@@ -14,13 +14,13 @@ use Rattle.lanes.specs.inner.Sizes.{Limits}
 use Rattle.lanes.specs.inner.Charges.{IsCheapest, chargeFrom}
 use Rattle.lanes.specs.declared.sizes.Sizes.{Sizes}
 use Rattle.lanes.specs.declared.charges.Cheapest.{Cheapest}
-use Rattle.lanes.proofs.charges.Used.{chargeFrom-le}
+use Rattle.lanes.proofs.charges.Used.{mostCharge, chargeFrom-le}
 
 -- what block j costs under its first least polarity
 abbrev leastFrom : Sizes → (ℕ → ℕ) → ℕ → ℕ
 leastFrom s lanes j = chargeFrom (s .family) lanes j (leastPolarity (s .k) (chargeFrom (s .family) lanes j))
 
-leastFrom-le : (s : Sizes) (lanes : ℕ → ℕ) (j : ℕ) → s .k ≤ 3 → j < 256 → leastFrom s lanes j ≤ 77824
+leastFrom-le : (s : Sizes) (lanes : ℕ → ℕ) (j : ℕ) → s .k ≤ 3 → j < 256 → leastFrom s lanes j ≤ mostCharge
 leastFrom-le s lanes j hk hj =
     let eight : 2 ^ s .k ≤ 2 ^ 3 = pow-mono hk in
     chargeFrom-le (s .family) lanes j _ hj (omega (arith, polarity-first (s .k) (chargeFrom (s .family) lanes j) .below))
@@ -45,7 +45,7 @@ module _ (s : Sizes) (lanes : ℕ → ℕ) (count sum j : ℕ) (turn : j < count
     pub blocks-lt : sum + least .charge < 2 ^ 31
     blocks-lt =
         let one = leastFrom-le s lanes j (summed .sizes .mixed) blocks-few in
-        let rest = sum-le j (77824) (leastFrom s lanes) (λ i l. leastFrom-le s lanes i (summed .sizes .mixed) (omega (arith, blocks-few))) in
+        let rest = sum-le j mostCharge (leastFrom s lanes) (λ i l. leastFrom-le s lanes i (summed .sizes .mixed) (omega (arith, blocks-few))) in
         omega (arith, one, rest, blocks-few, summed .total, cheapest .charge)
 
     pub blocks-more : BlocksSummed s lanes count (sum + least .charge) (j + 1)
