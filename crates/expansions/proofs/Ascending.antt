@@ -1,11 +1,13 @@
 -- The numbers with no bit in M, in ascending order, are those spread from 0, 1, .. to the inputs outside M: spread keeps the order
--- (`spread-less`), and above the one spread from w stand those spread from a greater number (`gather-above`, `spread-above`).
+-- (`spread-less`), and above the one spread from w stand those spread from a greater number (`gather-above`, `spread-above`). From one to the next it
+-- is an addition (`spread-suc`).
 use mathlib.Core.Path.{_≡_, sym, ap, _∙_}
 use mathlib.Core.Logic.{_⊎_, inl, inr}
-use Prim.Native.Nat.{ℕ, zero, suc, _+_, _*_, _/_, _%_, _^_, _≤_, _<_}
+use Prim.Native.Nat.{ℕ, zero, suc, _+_, _-_, _*_, _/_, _%_, _^_, _≤_, _<_, min}
 use native.Mathlib.Nat.{zero-add, add-zero, eq-or-lt-of-le, lt-of-not-le}
 use native.Mathlib.Omega.{arith}
-use native.Mathlib.Numerals.{one-add}
+use native.Mathlib.Numerals.{add-one, one-add}
+use lib.Bits.{bitAnd, and-step, and-zero-r}
 use lib.Count.{onesIn}
 use lib.Pow.{pow-pos}
 use Rattle.numbers.proofs.Xor.{low-lt}
@@ -53,3 +55,30 @@ module _ (n M w x : ℕ) (h : x < 2 ^ n) (clear : gather n M x ≡ 0) where
 
   pub spread-above : w ≤ gather n (outside n M) x → spread n (outside n M) w ≤ x
   spread-above l = omega (arith, spread-le n (outside n M) w _ l (gather-lt n (outside n M) x), spread-gather-outside n M x h clear)
+
+-- ---- from one to the next
+
+-- the low digit: 1 and the carry c go past a digit that is not in M, and are added to one that is
+digit-carry : (m y c o H : ℕ) (s : ℕ → ℕ) → m < 2 → c < 2 → ((x d : ℕ) → d < 2 → bitAnd (s x + o + d) H ≡ s (x + d))
+    → let a = s (dropDigit m y) * 2 + lowDigit m y + (o * 2 + (1 - m)) + c in
+    bitAnd (a / 2) H * 2 + min (a % 2) m ≡ s (dropDigit m (y + c)) * 2 + lowDigit m (y + c)
+unfolding dropDigit lowDigit
+digit-carry zero y c o H s hm hc each =
+    let half : (s y * 2 + 0 + (o * 2 + 1) + c) / 2 ≡ s y + o + c = omega arith in
+    rw (half, each y c hc) (omega arith)
+digit-carry (suc zero) y c o H s hm hc each =
+    let half : (s (y / 2) * 2 + y % 2 + (o * 2 + 0) + c) / 2 ≡ s (y / 2) + o + (y % 2 + c) / 2 = omega arith in
+    let high : y / 2 + (y % 2 + c) / 2 ≡ (y + c) / 2 = omega arith in
+    rw (half, each (y / 2) ((y % 2 + c) / 2) (omega arith), high) (omega arith)
+digit-carry (suc (suc m)) y c o H s hm hc each = absurd (omega arith)
+
+spread-carry : (n M y c : ℕ) → M < 2 ^ n → c < 2 → bitAnd (spread n M y + outside n M + c) M ≡ spread n M (y + c)
+unfolding spread outside
+spread-carry zero M y c h hc = let e : M ≡ 0 = omega arith in rw e (and-zero-r (0 + 0 + c))
+spread-carry (suc n) M y c h hc =
+    and-step (spread (suc n) M y + outside (suc n) M + c) M
+    ∙ digit-carry (M % 2) y c (outside n (M / 2)) (M / 2) (spread n (M / 2)) (low-lt M) hc (λ x d. spread-carry n (M / 2) x d (omega arith))
+
+-- above the number spread from y the next with no bit outside M: every bit outside M is added, so that the 1 is carried past them
+pub spread-suc : (n M y : ℕ) → M < 2 ^ n → bitAnd (spread n M y + outside n M + 1) M ≡ spread n M (suc y)
+spread-suc n M y h = spread-carry n M y 1 h (omega arith) ∙ ap (spread n M) (add-one y)

@@ -1,6 +1,7 @@
 pub mod Split
 pub mod Ascending
 pub mod Masks
+pub mod ClosedUp
 pub mod Least
 pub mod Blocks
 pub mod Polarities

@@ -85,18 +85,24 @@ pub outside-low : (n M : ℕ) → outside (suc n) M % 2 ≡ 1 - M % 2
 unfolding outside
 outside-low n M = omega arith
 
--- M and the inputs outside it are n inputs
-pub ones-outside : (n M : ℕ) → onesIn n (outside n M) + onesIn n M ≡ n
+pub outside-lt : (n M : ℕ) → outside n M < 2 ^ n
+unfolding outside
+outside-lt zero M = omega arith
+outside-lt (suc n) M = omega (arith, outside-lt n (M / 2))
+
+-- of the inputs below b each is in M or outside it
+pub ones-outside : (n b M : ℕ) → b ≤ n → onesIn b (outside n M) + onesIn b M ≡ b
 unfolding onesIn
-ones-outside zero M = refl
-ones-outside (suc n) M = rw (outside-half, outside-low) (omega (arith, ones-outside n (M / 2)))
+ones-outside n zero M h = refl
+ones-outside zero (suc b) M h = absurd (omega arith)
+ones-outside (suc n) (suc b) M h = rw (outside-half, outside-low) (omega (arith, ones-outside n b (M / 2) (omega arith)))
 
 -- so there are n - k outside a mask of k
 pub ones-others : (n k M : ℕ) → onesIn n M ≡ k → onesIn n (outside n M) ≡ n - k
-ones-others n k M h = omega (arith, ones-outside n M)
+ones-others n k M h = omega (arith, ones-outside n n M (omega arith))
 
 pub ones-size : (n k M : ℕ) → onesIn n M ≡ k → k ≤ n
-ones-size n k M h = omega (arith, ones-outside n M)
+ones-size n k M h = omega (arith, ones-outside n n M (omega arith))
 
 -- ---- bounds
 

@@ -1,4 +1,5 @@
 pub mod Split
+pub mod ClosedUp
 pub mod Members
 pub mod Rules
 pub mod Costs

@@ -10,19 +10,21 @@ ghost use Rattle.lanes.specs.inner.Lanes.{laneByte, placesByte, lanesUnd
 ghost use Rattle.lanes.specs.inner.Sizes.{Limits, MixedSet};
 use crate::sizes::Pair;
 use crate::sizes::Sizes;
+use points::ascending::next_point;
 use points::split::gather;
 use points::split::outside;
-use points::split::spread;
 use points::split::wide;
 
-// Fills `points` with the numbers 0, 1, .. opened out at the inputs of the mask.
+// Fills `points` with the numbers 0, 1, .. opened out at the inputs of the mask, stepping from each to the next.
 fn open_out(n: usize, mask: usize, points: &mut [u8])
-    requires { ⌜ n ≤ 8 ⌝ }
+    requires { ⌜ (n ≤ 8) × (mask < 2 ^ n) ⌝ }
     ensures { λ _. ⌜ now (points .exit) ≡ tabulate (length (now (points .entry))) (Split.spread n mask) ⌝ }
 {
+    let mut point: usize = 0;
     let mut y = 0;
     while y < points.len() {
-        points[y] = (spread(n, mask, y) & 255) as u8;
+        points[y] = (point & 255) as u8;
+        point = next_point(n, mask, point);
         y += 1;
     }
 }

@@ -8,8 +8,7 @@ ghost use Rattle.expansions.specs.BlockTable.{blockRows};
 ghost use Rattle.lanes.specs.inner.Sizes.{Limits, MixedSet};
 ghost use Rattle.lanes.specs.inner.Terms.{coefficientIn, coefficientAt};
 use crate::sizes::Sizes;
-use points::split::gather;
-use points::split::outside;
+use points::split::split;
 
 // The coefficient at place s of block j under the block polarity, all outputs together.
 fn coefficient_in(rows: &[u64; 256], lanes: &[u8], j: usize, s: usize, polarity: u8) -> u8
@@ -46,8 +45,9 @@ fn coefficient_at(
     if all <= t {
         return 0;
     }
-    let j = gather(sizes.n, outside(sizes.n, mixed), t);
-    let s = gather(sizes.n, mixed, t);
+    let parts = split(sizes.n, mixed, t);
+    let j = parts.block;
+    let s = parts.place;
     coefficient_in(rows, lanes, j, s, chosen[j])
 }
 

@@ -1,4 +1,5 @@
--- The bits of a number: by the lowest bit and the rest, through an exclusive OR, and the bits of one number among those of another.
+-- The bits of a number: by the lowest bit and the rest, through an exclusive OR, a number by its bits (`bits-same`), and the bits of one number
+-- among those of another.
 use mathlib.Core.Path.{_≡_, refl, sym, ap, _∙_}
 use mathlib.Core.Bool.{Bool, true, _&&_}
 use Prim.Native.Nat.{ℕ, zero, suc, _+_, _-_, _*_, _/_, _%_, _^_, _≤_, _<_, min}
@@ -9,7 +10,7 @@ use borrow.Author.Tests.{ne-eqb}
 use lib.Arith.{bin-ind, digits-div, digits-mod, mod-mul}
 use lib.Bits.{bitXor, bitAnd, differ, and-step, xor-shr}
 use lib.Dec.{eqb, T, eqb→eq}
-use lib.Pow.{pow-pos, pow-add}
+use lib.Pow.{pow-pos, pow-add, pow-mono}
 use Rattle.numbers.specs.Bits.{bit, inside}
 use Rattle.numbers.proofs.Tests.{and-intro, and-left, and-right, eqb-of, eqb-same}
 use Rattle.numbers.proofs.Xor.{low-lt, xor-low}
@@ -45,6 +46,13 @@ bit-lt i x = low-lt (x / 2 ^ i)
 pub bit-of-zero : (i : ℕ) → bit i 0 ≡ 0
 bit-of-zero i = ap (λ (y : ℕ). y % 2) (zero-div (2 ^ i))
 
+-- a number below 2 ^ n has no bits from n on
+pub bit-past : (n i x : ℕ) → x < 2 ^ n → n ≤ i → bit i x ≡ 0
+bit-past n i x h l =
+    let p : 2 ^ n ≤ 2 ^ i = pow-mono l in
+    let k : x < 2 ^ i = omega arith in
+    ap (λ (y : ℕ). y % 2) (div-eq-of-lt k)
+
 -- a number with the bit s is at least 2 ^ s
 pub bit-le : (s q : ℕ) → bit s q ≡ 1 → 2 ^ s ≤ q
 bit-le s q e = go (decLe (2 ^ s) q)
@@ -52,6 +60,19 @@ bit-le s q e = go (decLe (2 ^ s) q)
     go : Dec (2 ^ s ≤ q) → 2 ^ s ≤ q
     go (yes l) = l
     go (no l) = let h : q < 2 ^ s = omega arith in absurd (omega (arith, div-eq-of-lt h))
+
+-- ---- a number is its bits
+
+bits-none : (b : ℕ) → ((i : ℕ) → bit i b ≡ 0) → b ≡ 0
+bits-none =
+    bin-ind (λ (b : ℕ). ((i : ℕ) → bit i b ≡ 0) → b ≡ 0) (λ f. refl)
+    (λ b ih f. omega (arith, ih (λ i. sym (bit-suc i b) ∙ f (suc i)), bit-zero b, f 0))
+
+pub bits-same : (a b : ℕ) → ((i : ℕ) → bit i a ≡ bit i b) → a ≡ b
+bits-same =
+    bin-ind (λ (a : ℕ). (b : ℕ) → ((i : ℕ) → bit i a ≡ bit i b) → a ≡ b)
+    (λ b f. sym (bits-none b (λ i. sym (f i) ∙ bit-of-zero i)))
+    (λ a ih b f. omega (arith, ih (b / 2) (λ i. sym (bit-suc i a) ∙ f (suc i) ∙ bit-suc i b), bit-zero a, bit-zero b, f 0))
 
 -- ---- inside, by the lowest bit and the rest
 

@@ -1,9 +1,17 @@
-// Bits in a mask, closed up lowest first, and opened out again: block and place of a number, and the way back.
-// Each function walks the inputs from the lowest; `used` is the number of inputs of the mask passed so far.
+// Bits in a mask, closed up lowest first, and opened out again: block and place of a number, and the way back. Nothing divides: a bit is had by
+// a shift and a mask. Each function walks the inputs from the lowest; `used` is the number of inputs of the mask passed so far.
 ghost use mathlib.Core.Path.{_≡_};
 ghost use Prim.Native.Nat.{_≤_, _<_, _^_};
 ghost use lib.Count.{onesIn};
+ghost use Rattle.expansions.specs.ClosedUp.{IsSplit};
+ghost use Rattle.expansions.specs.Members.{block, place};
 ghost use Rattle.expansions.specs.Split as Split;
+
+// The bits of a number outside the mixed set and those in it, each closed up.
+pub struct Parts {
+    pub block: usize,
+    pub place: usize,
+}
 
 // A byte, as points, offsets and polarities are stored, as a number.
 pub fn wide(x: u8) -> usize
@@ -20,10 +28,30 @@ pub fn ones_in(n: usize, mask: usize) -> usize
     let mut used: usize = 0;
     let mut b: usize = 0;
     while b < n {
-        used += (mask >> b) % 2;
+        used += (mask >> b) & 1;
         b += 1;
     }
     used
+}
+
+// Block and place of x, a point or a term: an input of the mixed set adds its bit of x to the place, another to the block, each above those
+// that were added before.
+pub fn split(n: usize, mixed: usize, x: usize) -> Parts
+    requires { ⌜ n ≤ 8 ⌝ }
+    ensures { λ r. ⌜ (r .block ≡ block n mixed x) × (r .place ≡ place n mixed x) × IsSplit n mixed x (r .block) (r .place) ⌝ }
+{
+    let mut block: usize = 0;
+    let mut place: usize = 0;
+    let mut used: usize = 0;
+    let mut b: usize = 0; // the lowest input
+    while b < n {
+        let inside = (mixed >> b) & 1;
+        place += ((x >> b) & inside) << used;
+        block += ((x >> b) & (inside ^ 1)) << (b - used);
+        used += inside;
+        b += 1;
+    }
+    Parts { block, place }
 }
 
 // The bits of x at the inputs of the mask, closed up.
@@ -31,17 +59,8 @@ pub fn gather(n: usize, mask: usize, x: usize) -> usize
     requires { ⌜ n ≤ 8 ⌝ }
     ensures { λ r. ⌜ r ≡ Split.gather n mask x ⌝ }
 {
-    let mut y: usize = 0;
-    let mut used: usize = 0;
-    let mut b: usize = 0;
-    while b < n {
-        let inside = (mask >> b) % 2;
-        let digit = inside * ((x >> b) % 2);
-        y += digit << used;
-        used += inside;
-        b += 1;
-    }
-    y
+    let parts = split(n, mask, x);
+    parts.place
 }
 
 // The bits of y at the inputs of the mask, and 0 at the others.
@@ -53,9 +72,8 @@ pub fn spread(n: usize, mask: usize, y: usize) -> usize
     let mut used: usize = 0;
     let mut b: usize = 0;
     while b < n {
-        let inside = (mask >> b) % 2;
-        let digit = inside * ((y >> used) % 2);
-        x += digit << b;
+        let inside = (mask >> b) & 1;
+        x += ((y >> used) & inside) << b;
         used += inside;
         b += 1;
     }

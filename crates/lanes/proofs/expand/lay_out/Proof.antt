@@ -3,6 +3,7 @@ use borrow.Author.Needs.{needs}
 use mathlib.Core.Path.{_∙_, sym, ap}
 use Prim.Native.Nat.{ℕ, _*_}
 use native.Mathlib.Omega.{arith}
+use Rattle.expansions.proofs.Split.{outside-lt}
 use Rattle.lanes.proofs.expand.Laying.{opened-long, opened-kept, points-long, points-room, laid-out}
 use Rattle.lanes.proofs.expand.Room.{room-fits, room-counted, room-fits-again, room-counted-again}
 use Rattle.lanes.proofs.expand.lay_out.Statement.{statement}
@@ -24,7 +25,9 @@ slice-aggregate-open-out : tie.Need-slice-aggregate-open-out
 slice-aggregate-open-out c = let s = c .before .before .before .before .before in room-counted 1 (s .args .sizes) (omega arith) (s .pre .0)
 
 open-out-requires : tie.Need-open-out-requires
-open-out-requires c κs = search needs
+open-out-requires c κs =
+    let s = c .before .before .before .before .before in
+    (s .pre .0 .inputs, rw (c .before .outside .ensures) (outside-lt (s .args .sizes .n) (s .args .mixed)))
 
 slice-aggregate-open-out-2 : tie.Need-slice-aggregate-open-out-2
 slice-aggregate-open-out-2 c = search needs

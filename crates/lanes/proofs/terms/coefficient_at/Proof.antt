@@ -1,4 +1,4 @@
--- The block and the place of t are gathered; the answer on either side of the last term is one case of `coefficientAt`.
+-- The term is split into its block and its place; the answer on either side of the last term is one case of `coefficientAt`.
 use borrow.Author.Needs.{needs}
 use mathlib.Core.Path.{_≡_, sym, ap, ap₂, _∙_}
 use Prim.Native.Nat.{ℕ, _-_, _*_, _%_, _^_, _≤_, _<_}
@@ -17,20 +17,21 @@ use Rattle.lanes.proofs.terms.coefficient_at.Tie as tie
 size : (c : tie.Start) → 1 * 2 ^ c .args .sizes .n % 2 ^ 64 ≡ 2 ^ c .args .sizes .n
 size c = one-shifted _ (omega (arith, c .pre .1 .0 .inputs))
 
-block-is : (c : tie.After-gather) → let a = c .before .before .before .before .before .args in c .gather .result ≡ block (a .sizes .n) (a .mixed) (a .t)
-block-is c =
-    let a = c .before .before .before .before .before .args in
-    c .gather .ensures ∙ ap (λ (mask : ℕ). gather (a .sizes .n) mask (a .t)) (c .before .outside .ensures)
-
-block-below : (c : tie.After-gather) → let s = c .before .before .before .before .before .args .sizes in c .gather .result < 2 ^ (s .n - s .k)
-block-below c =
-    let s = c .before .before .before .before .before in
+place-below : (c : tie.After-split) → let s = c .before .before .before .before .args .sizes in c .split .result .place < 2 ^ s .k
+place-below c =
+    let s = c .before .before .before .before in
     let z = s .args .sizes in
-    rw (block-is c, ← ones-others (z .n) (z .k) (s .args .mixed) (s .pre .1 .1 .0 .0 .size)) (gather-lt (z .n) (outside (z .n) (s .args .mixed)) (s .args .t))
+    rw (c .split .ensures .1, ← s .pre .1 .1 .0 .0 .size) (gather-lt (z .n) (s .args .mixed) (s .args .t))
 
-block-small : (c : tie.After-gather) → c .gather .result < 256
+block-below : (c : tie.After-split) → let s = c .before .before .before .before .args .sizes in c .split .result .block < 2 ^ (s .n - s .k)
+block-below c =
+    let s = c .before .before .before .before in
+    let z = s .args .sizes in
+    rw (c .split .ensures .0, ← ones-others (z .n) (z .k) (s .args .mixed) (s .pre .1 .1 .0 .0 .size)) (gather-lt (z .n) (outside (z .n) (s .args .mixed)) (s .args .t))
+
+block-small : (c : tie.After-split) → c .split .result .block < 256
 block-small c =
-    let s = c .before .before .before .before .before in
+    let s = c .before .before .before .before in
     let z = s .args .sizes in
     omega (arith, block-below c, pow-mono {i = z .n - z .k} {j = 8} (omega (arith, s .pre .1 .0 .inputs)))
 
@@ -44,41 +45,31 @@ returns c =
     let h : 2 ^ s .args .sizes .n ≤ s .args .t = omega (arith, size s) in
     sym (only-above _ _ _ h)
 
-outside-requires : tie.Need-outside-requires
-outside-requires c κs = (c .before .before .before .pre .1 .0 .inputs, c .before .before .before .pre .1 .1 .0 .0 .mask)
-
-gather-requires : tie.Need-gather-requires
-gather-requires c κs = c .before .before .before .before .pre .1 .0 .inputs
-
-gather-requires-2 : tie.Need-gather-requires-2
-gather-requires-2 c κs = c .before .before .before .before .before .pre .1 .0 .inputs
+split-requires : tie.Need-split-requires
+split-requires c κs = search needs
 
 element-copy-out-coefficient-in : tie.Need-element-copy-out-coefficient-in
-element-copy-out-coefficient-in c = omega (arith, block-small (c .before))
+element-copy-out-coefficient-in c = omega (arith, block-small c)
 
 coefficient-in-requires : tie.Need-coefficient-in-requires
 coefficient-in-requires c κs =
-    let g = c .before .before in
-    let s = g .before .before .before .before .before in
-    let z = s .args .sizes in
-    let p = s .pre in
-    let place-below : c .before .gather2 .result < 2 ^ z .k =
-    rw (c .before .gather2 .ensures, ← p .1 .1 .0 .0 .size) (gather-lt (z .n) (s .args .mixed) (s .args .t)) in (
+    let g = c .before in
+    let p = g .before .before .before .before .pre in (
       p .0,
       block-small g,
       omega (arith, block-below g, p .1 .1 .0 .1),
-      omega (arith, place-below, pow-mono (p .1 .0 .mixed)),
+      omega (arith, place-below g, pow-mono (p .1 .0 .mixed)),
       p .1 .1 .1 _,
     )
 
 returns-2 : tie.Need-returns-2
 unfolding coefficientAt
 returns-2 c =
-    let g = c .before .before .before in
-    let s = g .before .before .before .before .before in
-    let h : s .args .t < 2 ^ s .args .sizes .n = omega (arith, g .before .before .if1 .left, size s) in
+    let g = c .before .before in
+    let s = g .before .before .before .before in
+    let h : s .args .t < 2 ^ s .args .sizes .n = omega (arith, g .before .if1 .left, size s) in
     let f : ℕ → ℕ → ℕ = λ j x. coefficientIn (at (s .args .lanes .now)) j x (at (s .args .chosen .now) j) in
-    c .coefficient-in .ensures ∙ ap₂ f (block-is g) (c .before .before .gather2 .ensures) ∙ sym (only-below _ _ _ h)
+    c .coefficient-in .ensures ∙ ap₂ f (g .split .ensures .0) (g .split .ensures .1) ∙ sym (only-below _ _ _ h)
 
 pub coefficient-at-spec : {M : Type 1} → statement M
 coefficient-at-spec =
@@ -86,9 +77,7 @@ coefficient-at-spec =
     (tie.spec
     shl-all
     returns
-    outside-requires
-    gather-requires
-    gather-requires-2
+    split-requires
     element-copy-out-coefficient-in
     coefficient-in-requires
     returns-2)

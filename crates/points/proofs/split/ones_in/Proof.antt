@@ -21,7 +21,7 @@ shr-used : tie.Need-shr-used Inv-loop μ-loop
 shr-used c = search needs
 
 add-used : tie.Need-add-used Inv-loop μ-loop
-add-used c = omega (arith, passed-few _ _ _ _ (c .before .loop .inv))
+add-used c = let p = passed-more _ _ _ _ (c .loop-test .taken) (c .before .loop .inv) in omega (arith, passed-few _ _ _ _ p)
 
 add-b : tie.Need-add-b Inv-loop μ-loop
 add-b c = search needs

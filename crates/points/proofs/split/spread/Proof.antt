@@ -4,7 +4,7 @@ use mathlib.Core.Path.{_≡_, refl, _∙_, ap}
 use Prim.Native.Nat.{ℕ, _+_, _-_}
 use Rattle.expansions.specs.Split.{spread}
 use Rattle.points.proofs.Bounds.{spread-small}
-use Rattle.points.proofs.split.Walks.{Passed, passed-none, passed-more, passed-few, passed-all, bits-lt, spread-digit}
+use Rattle.points.proofs.split.Walks.{Passed, passed-none, passed-more, passed-few, passed-all, digit-in, spread-digit}
 use native.Mathlib.Omega.{arith}
 use Rattle.points.proofs.split.spread.Statement.{statement}
 use Rattle.points.proofs.split.spread.Tie as tie
@@ -22,11 +22,8 @@ loop-holds c = (passed-none _ _ (c .pre), refl)
 shr-inside : tie.Need-shr-inside Inv-loop μ-loop
 shr-inside c = search needs
 
-shr-digit : tie.Need-shr-digit Inv-loop μ-loop
-shr-digit c = omega (arith, passed-few _ _ _ _ (c .before .loop .inv .0))
-
-mul-digit : tie.Need-mul-digit Inv-loop μ-loop
-mul-digit c = let l = c .before .loop in omega (arith, bits-lt (l .b) (c .before .before .args .mask) (l .used) (c .before .before .args .y))
+shr-x : tie.Need-shr-x Inv-loop μ-loop
+shr-x c = omega (arith, passed-few _ _ _ _ (c .before .loop .inv .0))
 
 shl-x : tie.Need-shl-x Inv-loop μ-loop
 shl-x c = search needs
@@ -35,10 +32,13 @@ add-x : tie.Need-add-x Inv-loop μ-loop
 add-x c =
     let l = c .before .loop in
     let a = c .before .before .args in
-    omega (arith, spread-digit _ _ _ _ _ (a .y) (l .inv .0) (l .inv .1), spread-small (l .b + 1) (a .mask) (a .y) (omega arith))
+    omega (arith, spread-digit _ _ _ _ _ (a .y) _ (l .inv .0) (l .inv .1) (digit-in (l .b) (a .mask) (l .used) (a .y)), spread-small (l .b + 1) (a .mask) (a .y) (omega arith))
 
 add-used : tie.Need-add-used Inv-loop μ-loop
-add-used c = omega (arith, passed-few _ _ _ _ (c .before .loop .inv .0))
+add-used c =
+    let l = c .before .loop in
+    let p = passed-more _ _ _ _ (c .loop-test .taken) (l .inv .0) in
+    omega (arith, passed-few _ _ _ _ p)
 
 add-b : tie.Need-add-b Inv-loop μ-loop
 add-b c = search needs
@@ -49,7 +49,10 @@ loop-less c = search needs
 loop-again : tie.Need-loop-again Inv-loop μ-loop
 loop-again c =
     let l = c .before .loop in
-    (passed-more _ _ _ _ (c .loop-test .taken) (l .inv .0), spread-digit _ _ _ _ _ _ (l .inv .0) (l .inv .1))
+    let a = c .before .before .args in (
+      passed-more _ _ _ _ (c .loop-test .taken) (l .inv .0),
+      spread-digit _ _ _ _ _ _ _ (l .inv .0) (l .inv .1) (digit-in (l .b) (a .mask) (l .used) (a .y)),
+    )
 
 returns : tie.Need-returns Inv-loop μ-loop
 returns c =
@@ -65,8 +68,7 @@ spread-spec =
     μ-loop
     loop-holds
     shr-inside
-    shr-digit
-    mul-digit
+    shr-x
     shl-x
     add-x
     add-used
