@@ -52,12 +52,12 @@ pub fn counts_in(family: Family, sum: u32) -> Counts
 {
     match family {
         Family::One => Counts {
-            products: (sum / 4096) as usize,
-            literals: (sum % 4096) as usize,
+            products: (sum >> 12) as usize,
+            literals: (sum & 4095) as usize,
         },
         Family::Two => Counts {
-            products: (sum % 512) as usize,
-            literals: less(sum / 512, 4 * (sum % 512)) as usize,
+            products: (sum & 511) as usize,
+            literals: less(sum >> 9, 4 * (sum & 511)) as usize,
         },
     }
 }
