@@ -10,13 +10,20 @@ ghost use Rattle.expansions.specs.kronecker.Steps.{kroneckerCoefficient};
 ghost use Rattle.kronecker.specs.Expansion.{answerKronecker, isTable, searchedKronecker};
 use crate::expansion::KroneckerExpansion;
 use crate::step::step;
-use crate::walk::KINDS;
+use crate::walk::KIND_BITS;
 use crate::walk::walk;
 use crate::weigh::HALF_PLACES;
+use crate::weigh::LITERAL_BITS;
 use crate::weigh::PRODUCT;
 use algebra::transform::padded;
 use numbers::refusals::judge_table;
 use numbers::refusals::within_outputs;
+
+// A score's bits that are the number of its kind.
+const KIND_MASK: usize = (1 << KIND_BITS) - 1;
+
+// A charge's bits that are its literals.
+const LITERAL_MASK: usize = (1 << LITERAL_BITS) - 1;
 
 // What the walk starts from: 2^40, above the score of every kind.
 const ABOVE_EVERY_SCORE: usize = 1 << 40;
@@ -65,12 +72,11 @@ fn search_kinds(n: usize, table: &[u8]) -> KroneckerExpansion
     let values = padded(table);
     let weights = [PRODUCT; HALF_PLACES];
     let best = walk(n, 0, 0, 1, &values, &weights, ABOVE_EVERY_SCORE);
-    let charge = best / KINDS;
-    let letters = letters_of(best % KINDS);
+    let charge = best >> KIND_BITS;
+    let letters = letters_of(best & KIND_MASK);
     let coefficients = coefficients(n, &letters, table);
-    let product = PRODUCT as usize;
-    let products = charge / product;
-    let literals = charge % product;
+    let products = charge >> LITERAL_BITS;
+    let literals = charge & LITERAL_MASK;
     KroneckerExpansion {
         coefficients,
         letters,

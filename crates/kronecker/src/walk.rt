@@ -11,12 +11,15 @@ ghost use Rattle.expansions.specs.inner.KroneckerWalk.{Place, Walked};
 use crate::expansion::KroneckerExpansion;
 use crate::step::step;
 use crate::weigh::HALF_PLACES;
-use crate::weigh::PRODUCT;
+use crate::weigh::LITERAL_BITS;
 use crate::weigh::half_charges;
 use crate::weigh::weigh;
 
+// How many of a score's bits are the number of its kind. The charge stands above them.
+pub const KIND_BITS: usize = 13;
+
 // The room for a kind's number in its score: there are 3^8 = 6,561 kinds at most.
-pub const KINDS: usize = 8192;
+const KINDS: usize = 1 << KIND_BITS;
 
 // The lower of two scores.
 fn lower(best: usize, score: usize) -> usize
@@ -47,9 +50,9 @@ fn try_last(
     ensures { λ r. ⌜ Walked (suc m) m kind power (at (now (values .entry))) (at (now (weights .entry))) best r ⌝ }
 {
     let halves = half_charges(m, values, weights);
-    let lower_products = halves.lower / PRODUCT;
-    let upper_products = halves.upper / PRODUCT;
-    let davio_products = halves.both / PRODUCT;
+    let lower_products = halves.lower >> LITERAL_BITS;
+    let upper_products = halves.upper >> LITERAL_BITS;
+    let davio_products = halves.both >> LITERAL_BITS;
     let shannon = kind_score(
         halves.lower + lower_products + halves.upper + upper_products,
         kind,

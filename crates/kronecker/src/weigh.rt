@@ -6,9 +6,12 @@ ghost use Rattle.expansions.specs.Costs.{counted};
 ghost use Rattle.expansions.specs.inner.KroneckerWalk.{Light, Weighed, Halves};
 use crate::expansion::KroneckerExpansion;
 
+// How many of a charge's bits are its literals. The products stand above them.
+pub const LITERAL_BITS: u32 = 12;
+
 // What a product weighs, each of its literals weighing 1. An expansion has fewer literals than this, at most 8 for each of 256 terms, so a
 // charge holds its products and its literals as one number.
-pub const PRODUCT: u32 = 4096;
+pub const PRODUCT: u32 = 1 << LITERAL_BITS;
 
 // The places of one half: the terms of all inputs but the last.
 pub const HALF_PLACES: usize = 1 << (KroneckerExpansion::INPUTS - 1);

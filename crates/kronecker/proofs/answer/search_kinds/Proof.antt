@@ -1,7 +1,9 @@
 -- `search_kinds` meets its contract: the walk's lowest score is the answer's.
 use borrow.Author.Needs.{needs}
-use mathlib.Core.Path.{refl}
+use mathlib.Core.Path.{refl, sym, _∙_}
+use Prim.Native.Nat.{_/_}
 use native.Mathlib.Omega.{arith}
+use lib.Bits.{and-mask}
 use Rattle.numbers.specs.Bytes.{at}
 use Rattle.expansions.proofs.kronecker.Walking.{place-start}
 use Rattle.expansions.proofs.kronecker.Lowering.{lowered-answer}
@@ -24,14 +26,11 @@ letters-of-requires c κs = search needs
 coefficients-requires : tie.Need-coefficients-requires
 coefficients-requires c κs = search needs
 
-cast-product : tie.Need-cast-product
-cast-product c = search needs
+cast-products : tie.Need-cast-products
+cast-products c = search needs
 
-div-products : tie.Need-div-products
-div-products c = search needs
-
-rem-literals : tie.Need-rem-literals
-rem-literals c = search needs
+shr-products : tie.Need-shr-products
+shr-products c = search needs
 
 returns : tie.Need-returns
 returns c =
@@ -41,7 +40,9 @@ returns c =
     let w = c .before .before .before .walk in
     let first = place-start _ table _ _ (p .0) (p .1) (p .2) (c .before .before .before .before .before .before .padded .ensures) refl in
     let answer = lowered-answer _ (at table) (p .1) 1099511627776 (w .result) (omega arith) (w .ensures (at table) first) in
-    answer-record _ (at table) (p .1) _ _ _ _ (answer .0) (answer .1) (c .before .before .letters-of .ensures) (c .coefficients .ensures)
+    let kind = and-mask (w .result) 13 in
+    let literals = and-mask (w .result / 8192) 12 in
+    rw (sym literals) at (answer-record _ (at table) (p .1) _ _ _ _ (answer .0) (kind ∙ answer .1) (c .before .before .letters-of .ensures) (c .coefficients .ensures))
 
 pub search-kinds-spec : {M : Type 1} → statement M
 search-kinds-spec =
@@ -51,7 +52,6 @@ search-kinds-spec =
     walk-requires
     letters-of-requires
     coefficients-requires
-    cast-product
-    div-products
-    rem-literals
+    cast-products
+    shr-products
     returns)
