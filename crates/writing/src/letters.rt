@@ -29,7 +29,7 @@ fn letter_byte(letter: u8) -> u8
 fn literal_byte(letter: u8, t: usize) -> u8
     ensures { λ r. ⌜ r ≡ literalByte (literalOf letter (t % 2)) ⌝ }
 {
-    if t % 2 == 0 {
+    if t & 1 == 0 {
         return without_bit(letter);
     }
     with_bit(letter)

@@ -73,7 +73,7 @@ impl Writer {
         let at = self.at;
         let mut k = 0;
         while k < m {
-            out[at + k] = b'0' + (c >> k) % 2;
+            out[at + k] = b'0' + ((c >> k) & 1);
             k += 1;
         }
         Writer { at: at + k }
@@ -112,10 +112,10 @@ fn cube_byte(i: usize, t: usize, w: usize) -> u8
     requires { ⌜ i < 64 ⌝ }
     ensures { λ r. ⌜ r ≡ cubeByte (bit i t) (bit i w) ⌝ }
 {
-    if (t >> i) % 2 == 0 {
+    if (t >> i) & 1 == 0 {
         return b'-';
     }
-    if (w >> i) % 2 == 0 {
+    if (w >> i) & 1 == 0 {
         return b'1';
     }
     b'0'

@@ -1,7 +1,8 @@
 -- `outputs` meets its contract: after k turns the first k characters are written.
 use borrow.Author.Needs.{needs}
-use mathlib.Core.Path.{sym}
-use Prim.Native.Nat.{_-_, _<_}
+use mathlib.Core.Path.{sym, ap, _∙_}
+use Prim.Native.Nat.{ℕ, _+_, _-_, _/_, _^_, _<_}
+use lib.Bits.{and-mask}
 use Rattle.listings.specs.Listing.{outputBytes}
 use Rattle.writing.proofs.Puts.{Written, written-none, written-more, written-all}
 use Rattle.listings.proofs.Characters.{length-outputs, at-outputs}
@@ -25,7 +26,7 @@ shr-out : tie.Need-shr-out Inv-loop μ-loop
 shr-out c = search needs
 
 add-out : tie.Need-add-out Inv-loop μ-loop
-add-out c = search needs
+add-out c = omega (arith, and-mask (c .before .before .args .c / 2 ^ c .before .loop .k) 1)
 
 add-out-2 : tie.Need-add-out-2 Inv-loop μ-loop
 add-out-2 c = search needs
@@ -45,7 +46,8 @@ loop-again c =
     let a = c .before .before .args in
     let k = c .before .loop .k in
     let h : k < a .m = c .loop-test .taken in
-    written-more (omega (arith, length-outputs (a .m) (a .c))) (sym (at-outputs (a .m) (a .c) k h)) (c .before .loop .inv)
+    let e = ap (λ (d : ℕ). 48 + d) (and-mask (a .c / 2 ^ k) 1) in
+    written-more (omega (arith, length-outputs (a .m) (a .c))) (e ∙ sym (at-outputs (a .m) (a .c) k h)) (c .before .loop .inv)
 
 add-t14 : tie.Need-add-t14 Inv-loop μ-loop
 add-t14 c =
