@@ -26,7 +26,7 @@ pub fn count_rows(n: usize, rows: &[u16; Expansion::PLACES]) -> Counts
     let mut literals: usize = 0;
     let mut t: usize = 0;
     while t < size {
-        if rows[t] % 256 != 0 {
+        if rows[t] & 255 != 0 {
             products += 1;
             literals += ones_in(n, t);
         }
@@ -43,7 +43,7 @@ pub fn bytes_of(rows: &[u16; Expansion::PLACES], shift: usize) -> [u8; Expansion
     let mut bytes = [0u8; Expansion::PLACES];
     let mut t: usize = 0;
     while t < Expansion::PLACES {
-        bytes[t] = ((rows[t] >> shift) % 256) as u8;
+        bytes[t] = ((rows[t] >> shift) & 255) as u8;
         t += 1;
     }
     bytes

@@ -1,8 +1,9 @@
 -- `bytes_of` meets its contract: after t turns the first t bytes are filled.
 use borrow.Author.Needs.{needs}
-use mathlib.Core.Path.{_≡_, refl, ap, _∙_}
+use mathlib.Core.Path.{_≡_, ap, _∙_}
 use Prim.Native.Nat.{ℕ, _-_, _/_, _%_, _^_}
 use native.Mathlib.Omega.{arith}
+use lib.Bits.{and-mask, mask-lt}
 use lib.ListN.{length}
 use Rattle.numbers.specs.Bytes.{at, tabulate}
 use Rattle.numbers.proofs.Bytes.{Filled, filled-none, filled-more, filled-all}
@@ -31,7 +32,9 @@ shr-bytes : tie.Need-shr-bytes Inv-loop μ-loop
 shr-bytes c = omega (arith, c .before .before .before .pre)
 
 cast-bytes-2 : tie.Need-cast-bytes-2 Inv-loop μ-loop
-cast-bytes-2 c = search needs
+cast-bytes-2 c =
+    let b = c .before .before in
+    omega (arith, mask-lt (at (b .before .args .rows .now) (b .loop .t) / 2 ^ b .before .args .shift) 8)
 
 array-write-bytes : tie.Need-array-write-bytes Inv-loop μ-loop
 array-write-bytes c = search needs
@@ -45,7 +48,7 @@ loop-less c = search needs
 loop-again : tie.Need-loop-again Inv-loop μ-loop
 loop-again c =
     let l = c .before .before .loop in
-    (l .inv .0, filled-more _ _ _ _ _ (omega (arith, l .inv .0, l .inv .1 .long, c .before .loop-test .taken)) refl (l .inv .1))
+    (l .inv .0, filled-more _ _ _ _ _ (omega (arith, l .inv .0, l .inv .1 .long, c .before .loop-test .taken)) (and-mask _ 8) (l .inv .1))
 
 returns : tie.Need-returns Inv-loop μ-loop
 returns c =

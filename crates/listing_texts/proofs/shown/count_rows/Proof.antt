@@ -1,9 +1,10 @@
 -- `count_rows` meets its contract: after t turns the products and the literals of the terms below t are counted.
 use borrow.Author.Needs.{needs}
 use mathlib.Core.Logic.{⊎-elim}
-use mathlib.Core.Path.{_≡_, _∙_}
+use mathlib.Core.Path.{_≡_, sym, _∙_}
 use Prim.Native.Nat.{_+_, _-_, _≤_, _<_, _^_}
 use native.Mathlib.Omega.{arith}
+use lib.Bits.{and-mask}
 use lib.Count.{ones, ones-le}
 use Rattle.numbers.proofs.Pack.{onesIn-ones}
 use Rattle.numbers.proofs.Shifts.{one-shifted, points-le}
@@ -75,8 +76,8 @@ loop-again c =
     ⊎-elim
     (λ h.
     let literals = h .1 .ensures ∙ onesIn-ones (i .before .before .args .n) (l .t) (term-lt i) in
-    (more, rw (h .2, h .3) (count-product _ (l .t) (l .products) (l .literals) (l .inv .1) _ (h .0 .taken) literals (few-ones i))))
-    (λ h. (more, rw (h .1, h .2) (count-none _ (l .t) (l .products) (l .literals) (l .inv .1) (h .0 .left))))
+    (more, rw (h .2, h .3) (count-product _ (l .t) (l .products) (l .literals) (l .inv .1) _ (λ e. h .0 .taken (and-mask _ 8 ∙ e)) literals (few-ones i))))
+    (λ h. (more, rw (h .1, h .2) (count-none _ (l .t) (l .products) (l .literals) (l .inv .1) (sym (and-mask _ 8) ∙ h .0 .left))))
     (c .if1 .came)
 
 returns : tie.Need-returns Inv-loop μ-loop
