@@ -1,5 +1,5 @@
 // The search over the pairs of M and i: every M of k inputs and every i with the bits of M zero, in ascending order of M * 2^n + i. For one M
-// it counts up over the polarities of the inputs outside M, closed up, and goes from one i and its block functions to the next i and its own.
+// it counts up over the polarities of the inputs outside M, closed up, and goes from the block functions under one to those under the next.
 // The main property: `first_least` hands up the first pair of least charge, every block having its first least polarity.
 ghost use mathlib.Core.Path.{_≡_};
 ghost use Prim.Native.Nat.{suc, _+_, _-_, _*_, _^_, _<_};
@@ -9,15 +9,15 @@ ghost use Rattle.expansions.specs.BlockTable.{blockRows};
 ghost use Rattle.expansions.specs.Answers.{pairCharge};
 ghost use Rattle.lanes.specs.inner.Sizes.{Limits, MixedSet};
 ghost use Rattle.lanes.specs.inner.Charges.{chargeFrom};
-ghost use Rattle.search.specs.inner.Search.{Given, ledBy, Leads};
+ghost use Rattle.search.specs.inner.Search.{Given, pairOf, ledBy, Leads};
 use lanes::charges::cheapest_block;
 use lanes::expand::expand_blocks;
 use lanes::expand::next_polarity;
 use lanes::sizes::Pair;
 use lanes::sizes::Sizes;
-use points::ascending::next_point;
 use points::split::ones_in;
 use points::split::outside;
+use points::split::spread;
 
 // The pair that leads, M * 2^n + i, and its charge; before there is one, the charge is above every charge.
 pub struct Leader {
@@ -43,18 +43,26 @@ fn pair_charge(rows: &[u64; 256], sizes: Sizes, lanes: &[u8]) -> u32
     sum
 }
 
-// The leader once the pair has been tried, from its block functions.
-fn try_polarity(rows: &[u64; 256], sizes: Sizes, pair: Pair, lanes: &[u8], leader: Leader) -> Leader
+// The leader once the pair of `mixed` and the closed-up polarity w has been tried, from its block functions.
+fn try_polarity(
+    rows: &[u64; 256],
+    sizes: Sizes,
+    mixed: usize,
+    w: usize,
+    lanes: &[u8],
+    leader: Leader,
+) -> Leader
     requires { ⌜ now rows ≡ blockRows ⌝ }
     requires { ⌜ Limits sizes ⌝ }
-    requires { ⌜ (pair .mixed < 2 ^ sizes .n) × (pair .fixed < 2 ^ sizes .n) × (length (now lanes) ≡ 8 * 2 ^ (sizes .n - sizes .k)) ⌝ }
-    ensures { λ l. ⌜ l ≡ ledBy (pairCharge (sizes .n) (sizes .k) (chargeFrom (sizes .family) (at (now (lanes .entry))))) (pair .mixed * 2 ^ sizes .n + pair .fixed) leader ⌝ }
+    requires { ⌜ (mixed < 2 ^ sizes .n) × (length (now lanes) ≡ 8 * 2 ^ (sizes .n - sizes .k)) ⌝ }
+    ensures { λ l. ⌜ l ≡ ledBy (pairCharge (sizes .n) (sizes .k) (chargeFrom (sizes .family) (at (now (lanes .entry))))) (pairOf (sizes .n) mixed w) leader ⌝ }
 {
     let charge = pair_charge(rows, sizes, lanes);
     if charge < leader.charge {
+        let fixed = spread(sizes.n, outside(sizes.n, mixed), w);
         return Leader {
             charge,
-            pair: (pair.mixed << sizes.n) + pair.fixed,
+            pair: (mixed << sizes.n) + fixed,
         };
     }
     leader
@@ -79,15 +87,12 @@ fn try_polarities(
     expand_blocks(sizes, Pair { mixed, fixed: 0 }, table, lanes);
     let r = sizes.n - sizes.k;
     let count: usize = 1 << r;
-    let others = outside(sizes.n, mixed);
     let mut led = leader;
-    let mut fixed: usize = 0;
     let mut w: usize = 0;
     while w < count {
-        let next = try_polarity(rows, sizes, Pair { mixed, fixed }, lanes, led);
+        let next = try_polarity(rows, sizes, mixed, w, lanes, led);
         led = next;
         next_polarity(r, w, lanes);
-        fixed = next_point(sizes.n, others, fixed);
         w += 1;
     }
     led

@@ -10,6 +10,7 @@ use Rattle.numbers.specs.Bytes.{at}
 use Rattle.numbers.specs.Tests.{only}
 use Rattle.expansions.specs.inner.Leading.{Leading}
 use Rattle.expansions.specs.Least.{firstLeast}
+use Rattle.expansions.specs.Split.{spread, outside}
 use Rattle.expansions.specs.declared.families.Family.{Family}
 use Rattle.expansions.specs.Rules.{ruleOf}
 use Rattle.expansions.specs.Answers.{blockCharge, leastPolarity, pairCharge, validPair}
@@ -31,6 +32,10 @@ pairValid n k x = validPair n k (x / 2 ^ n) (x % 2 ^ n)
 
 abbrev pub pairCost : Family → ℕ → ℕ → (ℕ → ℕ) → ℕ → ℕ
 pairCost F n k f x = pairCharge n k (blockCharge (ruleOf F) n k f (x / 2 ^ n) (x % 2 ^ n))
+
+-- the pair of M and the polarity w of the inputs outside M, closed up, as one number
+abbrev pub pairOf : (n M w : ℕ) → ℕ
+pairOf n M w = M * 2 ^ n + spread n (outside n M) w
 
 -- the leader once a pair of charge c is tried; one of equal charge does not displace it
 unfoldable pub ledBy : (c pair : ℕ) → Leader → Leader
