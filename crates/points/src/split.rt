@@ -34,8 +34,8 @@ pub fn ones_in(n: usize, mask: usize) -> usize
     used
 }
 
-// Block and place of x, a point or a term: an input of the mixed set adds its bit of x to the place, another to the block, each above those
-// that were added before.
+// Block and place of x, a point or a term: the bit of x at an input of the mixed set goes to the place, that at another input to the block,
+// each above those that went there before.
 pub fn split(n: usize, mixed: usize, x: usize) -> Parts
     requires { ⌜ n ≤ 8 ⌝ }
     ensures { λ r. ⌜ (r .block ≡ block n mixed x) × (r .place ≡ place n mixed x) × IsSplit n mixed x (r .block) (r .place) ⌝ }
@@ -46,8 +46,8 @@ pub fn split(n: usize, mixed: usize, x: usize) -> Parts
     let mut b: usize = 0; // the lowest input
     while b < n {
         let inside = (mixed >> b) & 1;
-        place += ((x >> b) & inside) << used;
-        block += ((x >> b) & (inside ^ 1)) << (b - used);
+        place = place | (((x >> b) & inside) << used);
+        block = block | (((x >> b) & (inside ^ 1)) << (b - used));
         used += inside;
         b += 1;
     }
@@ -73,7 +73,7 @@ pub fn spread(n: usize, mask: usize, y: usize) -> usize
     let mut b: usize = 0;
     while b < n {
         let inside = (mask >> b) & 1;
-        x += ((y >> used) & inside) << b;
+        x = x | (((y >> used) & inside) << b);
         used += inside;
         b += 1;
     }

@@ -1,12 +1,12 @@
 -- The loops that pass the inputs one by one, the lowest first. `Passed` says what they hold once the inputs below b have been passed; the
--- next digit, as code masks it (`digit-in`, `digit-out`), shifts and adds it, is the one that gather and spread put there (`gather-digit`,
+-- next digit, as code masks it (`digit-in`, `digit-out`), shifts and joins it, is the one that gather and spread put there (`gather-digit`,
 -- `spread-digit`).
-use mathlib.Core.Path.{_≡_, refl, sym, ap, ap₂, _∙_}
+use mathlib.Core.Path.{_≡_, refl, sym, _∙_}
 use Prim.Native.Nat.{ℕ, zero, suc, _+_, _-_, _*_, _/_, _%_, _^_, _≤_, _<_}
-use native.Mathlib.Nat.{mul-assoc, le-of-suc-le-suc, mul-le-mul}
+use native.Mathlib.Nat.{add-comm, mul-assoc, le-of-suc-le-suc, mul-le-mul}
 use native.Mathlib.Omega.{arith}
 use native.Mathlib.Numerals.{add-one}
-use lib.Bits.{bitAnd, bitXor, and-mask, and-zero-r}
+use lib.Bits.{bitAnd, bitOr, bitXor, and-mask, and-zero-r, and-le-r, or-shifted-r}
 use lib.Count.{onesIn}
 use lib.Pow.{shl-exact}
 use Rattle.numbers.specs.Bits.{bit}
@@ -14,7 +14,7 @@ use Rattle.numbers.proofs.Bits.{bit-lt}
 use Rattle.expansions.specs.Split.{gather, spread, outside}
 use Rattle.expansions.proofs.ClosedUp.{outside-bit}
 use Rattle.expansions.proofs.Masks.{ones-next, gather-next, spread-next}
-use Rattle.expansions.proofs.Split.{ones-size, ones-outside}
+use Rattle.expansions.proofs.Split.{ones-size, ones-outside, gather-lt, spread-lt}
 
 -- ---- a digit, as code masks it
 
@@ -64,6 +64,14 @@ passed-all n mask used b h p = omega arith
 pub passed-few : (n mask used b : ℕ) → Passed n mask used b → used ≤ b
 passed-few n mask used b p = ones-size b used mask (sym (p .count))
 
+-- so it is a shift of a word
+pub passed-shift : (n mask used b : ℕ) → Passed n mask used b → used < 64
+passed-shift n mask used b p = omega (arith, passed-few n mask used b p)
+
+-- one more fits
+pub passed-fits : (n mask used b d : ℕ) → Passed n mask used b → used + bitAnd d 1 < 2 ^ 64
+passed-fits n mask used b d p = omega (arith, passed-few n mask used b p, and-le-r d 1)
+
 -- the others that were passed are outside it
 pub passed-outside : (n mask used b : ℕ) → Passed n mask used b → Passed n (outside n mask) (b - used) b
 passed-outside n mask used b p =
@@ -74,19 +82,23 @@ passed-outside n mask used b p =
 bits-lt : (a x b y : ℕ) → bit a x * bit b y < 2
 bits-lt a x b y = omega (arith, mul-le-mul (le-of-suc-le-suc (bit-lt a x)) (le-of-suc-le-suc (bit-lt b y)))
 
--- shifted by no more than eight inputs, it loses nothing
-bits-shifted : (a x b y s d : ℕ) → s ≤ 8 → d ≡ bit a x * bit b y → d * 2 ^ s % 2 ^ 64 ≡ bit a x * (bit b y * 2 ^ s)
-bits-shifted a x b y s d h e =
-    rw e (shl-exact 1 s 64 (bits-lt a x b y) (omega arith) ∙ mul-assoc (bit a x) (bit b y) (2 ^ s))
+-- a digit put above the bits of z, which are below s
+digit-above : (z s d : ℕ) → s ≤ 8 → z < 2 ^ s → d < 2 → bitOr z (d * 2 ^ s % 2 ^ 64) ≡ z + d * 2 ^ s
+digit-above z s d h l hd = rw (shl-exact 1 s 64 hd (omega arith)) (or-shifted-r d s z l ∙ add-comm (d * 2 ^ s) z)
 
--- what code adds to the bits gathered so far
+-- above the bits gathered so far
 pub gather-digit : (n M used b y x d : ℕ) → Passed n M used b → y ≡ gather b M x → d ≡ bit b M * bit b x
-    → y + d * 2 ^ used % 2 ^ 64 ≡ gather (b + 1) M x
+    → bitOr y (d * 2 ^ used % 2 ^ 64) ≡ gather (b + 1) M x
 gather-digit n M used b y x d p e h =
-    rw (add-one b, gather-next b M x, ← (p .count)) (ap₂ _+_ e (bits-shifted b M b x used d (omega (arith, passed-few n M used b p, p .within, p .inputs)) h))
+    rw (h, e)
+    (digit-above (gather b M x) used (bit b M * bit b x) (omega (arith, passed-few n M used b p, p .within, p .inputs)) (rw (p .count) (gather-lt b M x))
+    (bits-lt b M b x)
+    ∙ rw (add-one b, gather-next b M x, ← (p .count), mul-assoc (bit b M) (bit b x) (2 ^ used)))
 
--- what code adds to the bits spread so far
+-- above the bits spread so far
 pub spread-digit : (n M used b x y d : ℕ) → Passed n M used b → x ≡ spread b M y → d ≡ bit b M * bit used y
-    → x + d * 2 ^ b % 2 ^ 64 ≡ spread (b + 1) M y
+    → bitOr x (d * 2 ^ b % 2 ^ 64) ≡ spread (b + 1) M y
 spread-digit n M used b x y d p e h =
-    rw (add-one b, spread-next b M y, ← (p .count)) (ap₂ _+_ e (bits-shifted b M used y b d (omega arith) h))
+    rw (h, e)
+    (digit-above (spread b M y) b (bit b M * bit used y) (omega arith) (spread-lt b M y) (bits-lt b M used y)
+    ∙ rw (add-one b, spread-next b M y, ← (p .count), mul-assoc (bit b M) (bit used y) (2 ^ b)))

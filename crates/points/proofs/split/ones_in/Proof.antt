@@ -3,7 +3,7 @@ use borrow.Author.Needs.{needs}
 use mathlib.Core.Path.{_∙_, ap}
 use Prim.Native.Nat.{ℕ, _-_}
 use lib.Count.{onesIn}
-use Rattle.points.proofs.split.Walks.{Passed, passed-none, passed-more, passed-few, passed-all}
+use Rattle.points.proofs.split.Walks.{Passed, passed-none, passed-more, passed-fits, passed-all}
 use native.Mathlib.Omega.{arith}
 use Rattle.points.proofs.split.ones_in.Statement.{statement}
 use Rattle.points.proofs.split.ones_in.Tie as tie
@@ -21,7 +21,7 @@ shr-used : tie.Need-shr-used Inv-loop μ-loop
 shr-used c = search needs
 
 add-used : tie.Need-add-used Inv-loop μ-loop
-add-used c = let p = passed-more _ _ _ _ (c .loop-test .taken) (c .before .loop .inv) in omega (arith, passed-few _ _ _ _ p)
+add-used c = search (needs, passed-fits)
 
 add-b : tie.Need-add-b Inv-loop μ-loop
 add-b c = search needs

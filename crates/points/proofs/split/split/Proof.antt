@@ -1,14 +1,14 @@
 -- `split` meets its contract: block and place have the bits of x at the inputs below b, outside the mixed set and in it.
 use borrow.Author.Needs.{needs}
 use mathlib.Core.Path.{_≡_, refl, ap, _∙_}
-use Prim.Native.Nat.{ℕ, _+_, _-_}
+use Prim.Native.Nat.{ℕ, _-_, _/_, _^_}
 use native.Mathlib.Omega.{arith}
+use lib.Bits.{and-le-r}
 use Rattle.expansions.specs.ClosedUp.{IsSplit}
 use Rattle.expansions.specs.Members.{block, place}
 use Rattle.expansions.specs.Split.{gather, outside}
 use Rattle.expansions.proofs.ClosedUp.{split-is}
-use Rattle.points.proofs.Bounds.{gather-small}
-use Rattle.points.proofs.split.Walks.{Passed, passed-none, passed-more, passed-few, passed-outside, passed-all, digit-in, digit-out, gather-digit}
+use Rattle.points.proofs.split.Walks.{Passed, passed-none, passed-more, passed-few, passed-fits, passed-outside, passed-all, digit-in, digit-out, gather-digit}
 use Rattle.points.proofs.split.split.Statement.{statement}
 use Rattle.points.proofs.split.split.Tie as tie
 
@@ -34,13 +34,9 @@ shr-place : tie.Need-shr-place Inv-loop μ-loop
 shr-place c = search needs
 
 shl-place : tie.Need-shl-place Inv-loop μ-loop
-shl-place c = omega (arith, passed-few _ _ _ _ (c .before .loop .inv .0))
-
-add-place : tie.Need-add-place Inv-loop μ-loop
-add-place c =
+shl-place c =
     let l = c .before .loop in
-    let a = c .before .before .args in
-    omega (arith, gather-digit _ _ _ _ _ (a .x) _ (l .inv .0) (l .inv .1) (digit-in (l .b) (a .mixed) (l .b) (a .x)), gather-small (l .b + 1) (a .mixed) (a .x) (omega arith))
+    omega (arith, passed-few _ _ _ _ (l .inv .0), and-le-r (c .before .before .args .mixed / 2 ^ l .b) 1)
 
 shr-block : tie.Need-shr-block Inv-loop μ-loop
 shr-block c = search needs
@@ -51,18 +47,8 @@ sub-block c = omega (arith, passed-few _ _ _ _ (c .before .loop .inv .0))
 shl-block : tie.Need-shl-block Inv-loop μ-loop
 shl-block c = omega (arith, passed-few _ _ _ _ (c .before .loop .inv .0))
 
-add-block : tie.Need-add-block Inv-loop μ-loop
-add-block c =
-    let l = c .before .loop in
-    let a = c .before .before .args in
-    let out = digit-out (a .n) (l .b) (a .mixed) (l .b) (a .x) (c .loop-test .taken) in
-    omega (arith, gather-digit _ _ _ _ _ (a .x) _ (passed-outside _ _ _ _ (l .inv .0)) (l .inv .2) out, gather-small (l .b + 1) (outside (a .n) (a .mixed)) (a .x) (omega arith))
-
 add-used : tie.Need-add-used Inv-loop μ-loop
-add-used c =
-    let l = c .before .loop in
-    let p = passed-more _ _ _ _ (c .loop-test .taken) (l .inv .0) in
-    omega (arith, passed-few _ _ _ _ p)
+add-used c = search (needs, passed-fits)
 
 add-b : tie.Need-add-b Inv-loop μ-loop
 add-b c = search needs
@@ -99,11 +85,9 @@ split-spec =
     shr-inside
     shr-place
     shl-place
-    add-place
     shr-block
     sub-block
     shl-block
-    add-block
     add-used
     add-b
     loop-less

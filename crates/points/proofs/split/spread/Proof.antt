@@ -1,10 +1,9 @@
 -- `spread` meets its contract: x has the bits of y at the inputs of the mask below b.
 use borrow.Author.Needs.{needs}
 use mathlib.Core.Path.{_≡_, refl, _∙_, ap}
-use Prim.Native.Nat.{ℕ, _+_, _-_}
+use Prim.Native.Nat.{ℕ, _-_}
 use Rattle.expansions.specs.Split.{spread}
-use Rattle.points.proofs.Bounds.{spread-small}
-use Rattle.points.proofs.split.Walks.{Passed, passed-none, passed-more, passed-few, passed-all, digit-in, spread-digit}
+use Rattle.points.proofs.split.Walks.{Passed, passed-none, passed-more, passed-shift, passed-fits, passed-all, digit-in, spread-digit}
 use native.Mathlib.Omega.{arith}
 use Rattle.points.proofs.split.spread.Statement.{statement}
 use Rattle.points.proofs.split.spread.Tie as tie
@@ -23,22 +22,13 @@ shr-inside : tie.Need-shr-inside Inv-loop μ-loop
 shr-inside c = search needs
 
 shr-x : tie.Need-shr-x Inv-loop μ-loop
-shr-x c = omega (arith, passed-few _ _ _ _ (c .before .loop .inv .0))
+shr-x c = search (needs, passed-shift)
 
 shl-x : tie.Need-shl-x Inv-loop μ-loop
 shl-x c = search needs
 
-add-x : tie.Need-add-x Inv-loop μ-loop
-add-x c =
-    let l = c .before .loop in
-    let a = c .before .before .args in
-    omega (arith, spread-digit _ _ _ _ _ (a .y) _ (l .inv .0) (l .inv .1) (digit-in (l .b) (a .mask) (l .used) (a .y)), spread-small (l .b + 1) (a .mask) (a .y) (omega arith))
-
 add-used : tie.Need-add-used Inv-loop μ-loop
-add-used c =
-    let l = c .before .loop in
-    let p = passed-more _ _ _ _ (c .loop-test .taken) (l .inv .0) in
-    omega (arith, passed-few _ _ _ _ p)
+add-used c = search (needs, passed-fits)
 
 add-b : tie.Need-add-b Inv-loop μ-loop
 add-b c = search needs
@@ -70,7 +60,6 @@ spread-spec =
     shr-inside
     shr-x
     shl-x
-    add-x
     add-used
     add-b
     loop-less
