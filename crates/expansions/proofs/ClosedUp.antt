@@ -1,6 +1,7 @@
 -- Gathering in words: for each r below the number of inputs of M there is one r-th input (`nth-input`, `nth-input-only`), `gather` closes up the
 -- bits at these (`gather-closed-up`), and no other number is closed up of them (`closed-up-only`). The inputs outside M are those of n that
--- are not in M (`outside-bit`). So block and place split a number, and joined they give it back (`split-is`).
+-- are not in M (`outside-bit`). So block and place split a number, and joined they give it back (`split-is`); and whichever block and place are
+-- joined, splitting gives them back (`split-join`).
 use mathlib.Core.Path.{_≡_, refl, sym, ap, _∙_}
 use Prim.Native.Nat.{ℕ, zero, suc, _+_, _-_, _*_, _/_, _%_, _^_, _≤_, _<_}
 use native.Mathlib.Nat.{zero-add}
@@ -121,6 +122,7 @@ closed-up-only n M x y z a b = bits-same y z (λ r. go r (decLt r (onesIn n M)))
 pub split-is : (n M x : ℕ) → IsSplit n M x (block n M x) (place n M x)
 split-is n M x =
     record {
+      others = outside-bit n M;
       block = gather-closed-up n (outside n M) x;
       place = gather-closed-up n M x;
       joined = join-gather n M x;
@@ -129,3 +131,7 @@ split-is n M x =
         sym (gather-join n M q s hs) ∙ ap (gather n M) e,
       );
     }
+
+-- any block and place, joined and split again
+pub split-join : (n M j r : ℕ) → j < 2 ^ onesIn n (outside n M) → r < 2 ^ onesIn n M → IsSplit n M (join n M j r) j r
+split-join n M j r hj hr = rw (gather-outside-join n M j r hj, gather-join n M j r hr) at (split-is n M (join n M j r))

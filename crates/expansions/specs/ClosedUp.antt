@@ -2,7 +2,7 @@
 -- place are the point's bits outside M and in M, each closed up lowest first, and ... the two joined give the point back". That the numbers
 -- which `Split` computes are these, and that no others are, are the laws of proofs/ClosedUp.
 use mathlib.Core.Path.{_≡_}
-use Prim.Native.Nat.{ℕ, _^_, _≤_, _<_}
+use Prim.Native.Nat.{ℕ, _-_, _^_, _≤_, _<_}
 use lib.Count.{onesIn}
 use Rattle.numbers.specs.Bits.{bit}
 use Rattle.expansions.specs.Split.{outside, join}
@@ -18,9 +18,10 @@ pub record ClosedUp (n M x y : ℕ) : Type 0 where
   pub each : (r i : ℕ) → NthInput n M r i → bit r y ≡ bit i x
   pub none : (r : ℕ) → onesIn n M ≤ r → bit r y ≡ 0
 
--- j and r are the block and the place of x, a point or a term: "the point's bits outside M and in M, each closed up lowest first", which
--- joined give x back; and whichever block and place are joined to x, they are these
+-- j and r are the block and the place of x, a point or a term: "the point's bits outside M and in M, each closed up lowest first", an input
+-- being outside M where it is not in M; joined they give x back; and whichever block and place are joined to x, they are these
 pub record IsSplit (n M x j r : ℕ) : Type 0 where
+  pub others : (i : ℕ) → i < n → bit i (outside n M) ≡ 1 - bit i M
   pub block : ClosedUp n (outside n M) x j
   pub place : ClosedUp n M x r
   pub joined : x < 2 ^ n → join n M j r ≡ x
