@@ -82,25 +82,25 @@ outside-bit (suc n) M (suc i) h =
 
 -- ---- closed up
 
-putDigit-first : (m x b : ℕ) → m ≡ 1 → b < 2 → bit 0 (putDigit m x b) ≡ b
+putDigit-lowest : (m x b : ℕ) → m ≡ 1 → b < 2 → bit 0 (putDigit m x b) ≡ b
 unfolding putDigit
-putDigit-first m x b e h = rw e (bit-zero (x * 2 + b) ∙ omega arith)
+putDigit-lowest m x b e h = rw e (bit-zero (x * 2 + b) ∙ omega arith)
 
-putDigit-next : (m r x b : ℕ) → m < 2 → b < 2 → bit (m + r) (putDigit m x b) ≡ bit r x
+putDigit-above : (m r x b : ℕ) → m < 2 → b < 2 → bit (m + r) (putDigit m x b) ≡ bit r x
 unfolding putDigit
-putDigit-next zero r x b h l = rw (zero-add r)
-putDigit-next (suc zero) r x b h l = rw (one-add r) (bit-suc r (x * 2 + b) ∙ ap (bit r) (digits-div x l))
-putDigit-next (suc (suc m)) r x b h l = absurd (omega arith)
+putDigit-above zero r x b h l = rw (zero-add r)
+putDigit-above (suc zero) r x b h l = rw (one-add r) (bit-suc r (x * 2 + b) ∙ ap (bit r) (digits-div x l))
+putDigit-above (suc (suc m)) r x b h l = absurd (omega arith)
 
 -- an input of M, by the number of those below it
 gather-bit : (n M x i : ℕ) → i < n → bit i M ≡ 1 → bit (onesIn i M) (gather n M x) ≡ bit i x
 unfolding gather
 gather-bit zero M x i h e = absurd (omega arith)
 gather-bit (suc n) M x zero h e =
-    rw (ones-none M) (putDigit-first (M % 2) (gather n (M / 2) (x / 2)) (x % 2) (sym (bit-zero M) ∙ e) (low-lt x) ∙ sym (bit-zero x))
+    rw (ones-none M) (putDigit-lowest (M % 2) (gather n (M / 2) (x / 2)) (x % 2) (sym (bit-zero M) ∙ e) (low-lt x) ∙ sym (bit-zero x))
 gather-bit (suc n) M x (suc i) h e =
     rw (ones-first i M)
-    (putDigit-next (M % 2) (onesIn i (M / 2)) (gather n (M / 2) (x / 2)) (x % 2) (low-lt M) (low-lt x)
+    (putDigit-above (M % 2) (onesIn i (M / 2)) (gather n (M / 2) (x / 2)) (x % 2) (low-lt M) (low-lt x)
     ∙ gather-bit n (M / 2) (x / 2) i (omega arith) (sym (bit-suc i M) ∙ e) ∙ sym (bit-suc i x))
 
 pub gather-closed-up : (n M x : ℕ) → ClosedUp n M x (gather n M x)

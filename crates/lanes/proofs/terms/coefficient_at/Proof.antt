@@ -1,12 +1,11 @@
 -- The term is split into its block and its place; the answer on either side of the last term is one case of `coefficientAt`.
 use borrow.Author.Needs.{needs}
-use mathlib.Core.Path.{_≡_, sym, ap, ap₂, _∙_}
+use mathlib.Core.Path.{_≡_, sym, ap₂, _∙_}
 use Prim.Native.Nat.{ℕ, _-_, _*_, _%_, _^_, _≤_, _<_}
 use lib.Pow.{pow-mono}
 use Rattle.numbers.specs.Bytes.{at}
 use Rattle.numbers.proofs.Shifts.{one-shifted}
-use Rattle.expansions.specs.Split.{gather, outside}
-use Rattle.expansions.specs.Members.{block}
+use Rattle.expansions.specs.Split.{outside}
 use Rattle.lanes.specs.inner.Terms.{coefficientIn, coefficientAt}
 use Rattle.expansions.proofs.Split.{ones-others, gather-lt}
 use Rattle.expansions.proofs.Answers.{only-below, only-above}

@@ -4,7 +4,6 @@ use mathlib.Core.Path.{_∙_, ap}
 use Prim.Native.Nat.{ℕ, _-_}
 use lib.Count.{onesIn}
 use Rattle.points.proofs.split.Walks.{Passed, passed-none, passed-more, passed-fits, passed-all}
-use native.Mathlib.Omega.{arith}
 use Rattle.points.proofs.split.ones_in.Statement.{statement}
 use Rattle.points.proofs.split.ones_in.Tie as tie
 

@@ -4,7 +4,6 @@ use mathlib.Core.Path.{_≡_, refl, _∙_, ap}
 use Prim.Native.Nat.{ℕ, _-_}
 use Rattle.expansions.specs.Split.{spread}
 use Rattle.points.proofs.split.Walks.{Passed, passed-none, passed-more, passed-shift, passed-fits, passed-all, digit-in, spread-digit}
-use native.Mathlib.Omega.{arith}
 use Rattle.points.proofs.split.spread.Statement.{statement}
 use Rattle.points.proofs.split.spread.Tie as tie
 
