@@ -46,7 +46,8 @@ fn less(a: u32, b: u32) -> u32
     if a < b { 0 } else { a - b }
 }
 
-// The products and the literals whose weights, by a family's rule, have this sum.
+// The products and the literals whose weights, by a family's rule, have this sum. The quotient by 4096 is a shift by 12 and that by 512 one by 9; the
+// remainders are masks.
 pub fn counts_in(family: Family, sum: u32) -> Counts
     ensures { λ r. ⌜ (r .products ≡ ruleOf family .productsIn sum) × (r .literals ≡ ruleOf family .literalsIn sum) ⌝ }
 {
