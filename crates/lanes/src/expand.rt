@@ -4,7 +4,10 @@
 ghost use mathlib.Core.Path.{_≡_};
 ghost use Prim.Native.Nat.{ℕ, suc, _+_, _-_, _*_, _/_, _%_, _^_, _<_, _≤_};
 ghost use lib.ListN.{length};
+ghost use lib.Seq.{sets};
+ghost use Rattle.numbers.specs.Bits.{bit};
 ghost use Rattle.numbers.specs.Bytes.{at, tabulate};
+ghost use Rattle.numbers.specs.Words.{word, byte};
 ghost use Rattle.expansions.specs.Split as Split;
 ghost use Rattle.lanes.specs.inner.Lanes.{laneByte, placesByte, lanesUnder, blockLanes};
 ghost use Rattle.lanes.specs.inner.Sizes.{Limits, MixedSet};
@@ -29,19 +32,41 @@ fn open_out(n: usize, mask: usize, points: &mut [u8])
     }
 }
 
-// Output o at the eight places of the block whose first point is `point`, as the bits of a byte.
-fn lane_byte(table: &[u8], point: usize, offsets: &[u8; 8], o: usize) -> u8
-    requires { ⌜ (o < 8) × ((p : ℕ) → p < 8 → point + at (now offsets) p < length (now table)) ⌝ }
-    ensures { λ r. ⌜ r ≡ laneByte (now (table .entry)) point (now (offsets .entry)) o ⌝ }
+// Each output of a byte by itself: bit o of the byte is the lowest bit of byte o of the word. The byte stands in each byte of the word, and byte o
+// keeps bit o alone; 127 more carries that bit to the highest of its byte.
+fn outputs_apart(outputs: u8) -> u64
+    ensures { λ r. ⌜ r ≡ word 8 (λ o. bit o outputs) ⌝ }
 {
-    let mut byte: u8 = 0;
+    let each = (outputs as u64 * 0x0101010101010101) & 0x8040201008040201;
+    ((each + 0x7f7f7f7f7f7f7f7f) >> 7) & 0x0101010101010101
+}
+
+// The outputs at the eight places of the block whose first point is `point`, each point read once: byte o of the word has output o at the places,
+// as its bits.
+fn lane_word(table: &[u8], point: usize, offsets: &[u8; 8]) -> u64
+    requires { ⌜ ((p : ℕ) → p < 8 → point + at (now offsets) p < length (now table)) ⌝ }
+    ensures { λ r. ⌜ r ≡ word 8 (laneByte (now (table .entry)) point (now (offsets .entry))) ⌝ }
+{
+    let mut all: u64 = 0;
     let mut p: usize = 0;
     while p < 8 {
-        let digit = (table[point + wide(offsets[p])] >> o) & 1;
-        byte += digit << p;
+        let apart = outputs_apart(table[point + wide(offsets[p])]);
+        all += apart << p;
         p += 1;
     }
-    byte
+    all
+}
+
+// Writes the eight bytes of the word as those of block q.
+fn put_lanes(q: usize, all: u64, lanes: &mut [u8])
+    requires { ⌜ 8 * q + 8 ≤ length (now lanes) ⌝ }
+    ensures { λ _. ⌜ now (lanes .exit) ≡ sets (now (lanes .entry)) (8 * q) (tabulate 8 (λ o. byte o all)) ⌝ }
+{
+    let mut o: usize = 0;
+    while o < 8 {
+        lanes[8 * q + o] = ((all >> (8 * o)) & 255) as u8;
+        o += 1;
+    }
 }
 
 // Fills `lanes` with a byte for each block and output, by the first point of each block and the offset of each place.
@@ -49,10 +74,11 @@ fn fill_lanes(table: &[u8], points: &[u8], offsets: &[u8; 8], lanes: &mut [u8])
     requires { ⌜ (length (now lanes) ≡ 8 * length (now points)) × ((q p : ℕ) → q < length (now points) → p < 8 → at (now points) q + at (now offsets) p < length (now table)) ⌝ }
     ensures { λ _. ⌜ now (lanes .exit) ≡ tabulate (length (now (lanes .entry))) (λ x. laneByte (now (table .entry)) (at (now (points .entry)) (x / 8)) (now (offsets .entry)) (x % 8)) ⌝ }
 {
-    let mut x = 0;
-    while x < lanes.len() {
-        lanes[x] = lane_byte(table, wide(points[x >> 3]), offsets, x & 7);
-        x += 1;
+    let mut q = 0;
+    while q < points.len() {
+        let all = lane_word(table, wide(points[q]), offsets);
+        put_lanes(q, all, lanes);
+        q += 1;
     }
 }
 

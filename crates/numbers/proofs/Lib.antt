@@ -8,5 +8,6 @@ pub mod Sums
 pub mod Pack
 pub mod Ands
 pub mod Words
+pub mod WordBits
 pub mod Nonzero
 pub mod Flips

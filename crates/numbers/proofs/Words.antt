@@ -89,6 +89,11 @@ pub byte-lt : (q x : ℕ) → byte q x < 256
 unfolding byte
 byte-lt q x = omega arith
 
+-- as code takes it
+pub byte-masked : (q x : ℕ) → bitAnd (x / 2 ^ (8 * q)) 255 ≡ byte q x
+unfolding byte
+byte-masked q x = and-mask (x / 2 ^ (8 * q)) 8
+
 pub byte-zero : (x : ℕ) → byte 0 x ≡ x % 256
 unfolding byte
 byte-zero x = ap (λ (y : ℕ). y % 256) (div-one x)

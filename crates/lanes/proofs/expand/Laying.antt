@@ -1,20 +1,22 @@
--- The bytes of the layout as code computes them, bit by bit (`place-more`) and byte by byte (`laid-byte`), and the layout that they come to
--- (`laid-out`): byte 8 * q + o has output o at the places of block q. Each output by itself expanded over the inputs outside M, it leaves the
--- block functions (`blocks-expanded`).
+-- The layout as code fills it, block by block (`laid-more`), and what it comes to (`laid-out`): byte 8 * q + o has output o at the places of
+-- block q. Each output by itself expanded over the inputs outside M, it leaves the block functions (`blocks-expanded`).
 use mathlib.Core.Path.{_≡_, sym, ap, ap₂, _∙_}
 use mathlib.Core.List.{List, _++_}
 use Prim.Native.Nat.{ℕ, _+_, _-_, _*_, _/_, _%_, _^_, _≤_, _<_}
 use native.Mathlib.Nat.{mod-eq-of-lt}
 use native.Mathlib.Omega.{arith}
 use lib.Arith.{digits-div, digits-mod}
-use lib.Bits.{bitAnd, and-mask, and-le-r}
+use lib.Bits.{bitAnd, and-mask}
 use lib.ListN.{length, take, replicate}
 use lib.Pow.{pow-mono}
+use lib.Seq.{sets}
 use Rattle.numbers.specs.Bytes.{at, tabulate}
-use Rattle.numbers.specs.Bits.{bit, pack}
+use Rattle.numbers.specs.Bits.{bit}
+use Rattle.numbers.specs.Words.{word, byte}
 use Rattle.numbers.proofs.Bits.{bit-lt}
-use Rattle.numbers.proofs.Bytes.{length-tabulate, at-tabulate, tabulate-ext}
-use Rattle.numbers.proofs.Pack.{pack-ext, pack-more, pack-fits}
+use Rattle.numbers.proofs.Bytes.{Filled, filled-run, length-tabulate, at-tabulate, tabulate-ext}
+use Rattle.numbers.proofs.Pack.{pack-ext, pack-lt}
+use Rattle.numbers.proofs.Words.{word-byte}
 use Rattle.algebra.specs.Coefficients.{coefficient}
 use Rattle.algebra.proofs.Coefficients.{coefficient-ext}
 use Rattle.expansions.specs.Split.{gather, spread, outside, join}
@@ -30,31 +32,24 @@ use Rattle.lanes.proofs.expand.Room.{room-lent, room-kept}
 pub opened-byte : (n mask y x : ℕ) → n ≤ 8 → x ≡ spread n mask y → bitAnd x 255 ≡ spread n mask y
 opened-byte n mask y x h e = rw e (and-mask (spread n mask y) 8 ∙ mod-eq-of-lt (omega (arith, spread-lt n mask y, pow-mono {i = n} {j = 8} h)))
 
--- the bit of output o at the place p, whose offset is w; `byte` has the bits of the places below p already
-module _ (table offsets : List ℕ) (point o p byte w : ℕ) (next : p < 8) (offset : w ≡ at offsets p)
-    (so-far : byte ≡ pack p (λ x. bit o (at table (point + at offsets x)))) where
-  digit : bitAnd (at table (point + w) / 2 ^ o) 1 ≡ bit o (at table (point + at offsets p))
-  digit = rw offset (and-mask _ 1)
-
-  pub place-more : byte + bitAnd (at table (point + w) / 2 ^ o) 1 * 2 ^ p % 2 ^ 8 ≡ pack (p + 1) (λ x. bit o (at table (point + at offsets x)))
-  place-more = ap (λ (d : ℕ). byte + d * 2 ^ p % 2 ^ 8) digit ∙ pack-more p byte _ next (λ x. bit-lt _ _) so-far
-
-  pub place-fits : byte + bitAnd (at table (point + w) / 2 ^ o) 1 * 2 ^ p % 2 ^ 8 < 2 ^ 8
-  place-fits = omega (arith, ap (λ (d : ℕ). byte + d * 2 ^ p % 2 ^ 8) digit, pack-fits p byte _ next (λ x. bit-lt _ _) so-far)
-
 -- the byte x of the layout, by the first point of each block and the offset of each place
 abbrev pub laidByte : (table points offsets : List ℕ) → ℕ → ℕ
 laidByte table points offsets x = laneByte table (at points (x / 8)) offsets (x % 8)
 
--- of the output `x & y`
-pub output-lt : (x y : ℕ) → y ≤ 7 → bitAnd x y < 8
-output-lt x y h = omega (arith, and-le-r x y)
-
--- as code packs it, of the output `x & 7`
-pub laid-byte : (table points offsets : List ℕ) (x point y : ℕ) → point ≡ at points (x / 8)
-    → y ≡ laneByte table point offsets (bitAnd x 7) → y ≡ laidByte table points offsets x
-laid-byte table points offsets x point y first e =
-    e ∙ ap₂ (λ (q o : ℕ). laneByte table q offsets o) first (and-mask x 3)
+-- the bytes of block q more, which code has in one word
+pub laid-more : (table points offsets before after written : List ℕ) (q point all : ℕ) → point ≡ at points q → all ≡ word 8 (laneByte table point offsets)
+    → written ≡ sets after (8 * q) (tabulate 8 (λ o. byte o all)) → 8 * q + 8 ≤ length after
+    → Filled (laidByte table points offsets) (8 * q) before after → Filled (laidByte table points offsets) (8 * (q + 1)) before written
+laid-more table points offsets before after written q point all first bytes run room so-far =
+    let e : 8 * (q + 1) ≡ 8 * q + 8 = omega arith in
+    rw (run, e) (filled-run (laidByte table points offsets) (λ o. byte o all) 8 (8 * q) before after room same so-far)
+  where
+    same : (o : ℕ) → o < 8 → byte o all ≡ laidByte table points offsets (8 * q + o)
+    same o h =
+        let block : q ≡ (8 * q + o) / 8 = omega arith in
+        let output : o ≡ (8 * q + o) % 8 = omega arith in
+        ap (byte o) bytes ∙ word-byte 8 (laneByte table point offsets) (λ x l. pack-lt 8 _ (λ p k. bit-lt x _)) o h
+        ∙ ap₂ (λ (p x : ℕ). laneByte table p offsets x) (first ∙ ap (at points) block) output
 
 -- the first point of each block, in the lent part of an array
 module _ (s : Sizes) (M mask : ℕ) (xs : List ℕ) (limits : Limits s) (others : mask ≡ outside (s .n) M)

@@ -2,11 +2,10 @@
 use borrow.Author.Needs.{needs}
 use mathlib.Core.Path.{_≡_, sym}
 use Prim.Native.Nat.{_-_}
-use native.Mathlib.Omega.{arith}
 use native.Mathlib.Numerals.{add-one}
-use lib.Bits.{mask-lt}
 use lib.ListN.{length}
 use Rattle.numbers.proofs.Bytes.{Filled, filled-none, filled-more, filled-all}
+use Rattle.numbers.proofs.Shifts.{mask-byte}
 use Rattle.expansions.specs.Split.{spread}
 use Rattle.expansions.proofs.Split.{spread-zero, spread-lt}
 use Rattle.lanes.proofs.expand.Laying.{opened-byte}
@@ -23,7 +22,7 @@ loop-holds : tie.Need-loop-holds Inv-loop μ-loop
 loop-holds c = (filled-none _ _, sym (spread-zero _ _))
 
 cast-points : tie.Need-cast-points Inv-loop μ-loop
-cast-points c = omega (arith, mask-lt (c .before .loop .point) 8)
+cast-points c = search (needs, mask-byte)
 
 slice-write-points : tie.Need-slice-write-points Inv-loop μ-loop
 slice-write-points c = search needs
