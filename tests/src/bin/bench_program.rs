@@ -16,6 +16,9 @@ use std::path::{Path, PathBuf};
 
 const N: usize = 8;
 
+/// How often each work is tried: enough that the best of two runs of one program differ by a hundredth or two.
+const REPEATS: usize = 400;
+
 /// Milliseconds for the design by each of two programs, the start of the process taken off, and by the C code.
 fn milliseconds(design: &Design, programs: [&Path; 2]) -> [f64; 3] {
     let text = design.text();
@@ -35,7 +38,7 @@ fn milliseconds(design: &Design, programs: [&Path; 2]) -> [f64; 3] {
         &mut || run(1, b""),
         &mut search,
     ];
-    let [first, first_start, second, second_start, c] = side_by_side(60, 1, works);
+    let [first, first_start, second, second_start, c] = side_by_side(REPEATS, 1, works);
     [first - first_start, second - second_start, c].map(|seconds| seconds * 1e3)
 }
 
