@@ -7,7 +7,7 @@ use std::time::Instant;
 pub fn side_by_side<const N: usize>(
     repeats: usize,
     runs: u32,
-    mut works: [&mut dyn FnMut(); N],
+    works: [&mut dyn FnMut(); N],
 ) -> [f64; N] {
     let mut best = [f64::INFINITY; N];
     for repeat in 0..repeats {
