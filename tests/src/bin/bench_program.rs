@@ -16,7 +16,7 @@ use std::path::{Path, PathBuf};
 
 const N: usize = 8;
 
-/// How often each work is tried: enough that the best of two runs of one program differ by a hundredth or two.
+/// How often each work is tried: enough that one program beside itself is told within a few hundredths.
 const REPEATS: usize = 400;
 
 /// Milliseconds for the design by each of two programs, the start of the process taken off, and by the C code.
