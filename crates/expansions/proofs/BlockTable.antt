@@ -1,13 +1,13 @@
 -- The block table's rule from equation (1) (`entry-value`, `entry-unique`), and what the table tells of a block of k ≤ 3 inputs and m
 -- outputs. Bit t of `used m k φ g` is 1 exactly where the term t has a coefficient under φ (`used-bit`), so a block's charge is a sum over
--- the bits of one byte (`used-sum`); and the transform over the other inputs acts on the bytes of the outputs (`plane-coefficient`). The charge
--- of a pair is less than 2 ^ 31 (`pairCharge-small`).
+-- the bits of one byte, for block 0 with the coefficient of the constant (`blockCharge-byte`); and the transform over the other inputs acts on the bytes
+-- of the outputs (`plane-coefficient`). The charge of a pair is less than 2 ^ 31 (`pairCharge-small`).
 use mathlib.Core.Path.{_≡_, sym, ap, ap₂, _∙_}
 use Prim.Native.Nat.{ℕ, zero, suc, _+_, _-_, _*_, _/_, _%_, _^_, _≤_, _<_, max}
-use native.Mathlib.Nat.{mod-lt, mod-eq-of-lt, add-zero, add-suc, zero-mul, mul-le-mul}
+use native.Mathlib.Nat.{mod-lt, mod-eq-of-lt, zero-add, add-zero, add-suc, zero-mul, mul-assoc, mul-le-mul, mul-le-mul-right}
 use native.Mathlib.Omega.{arith}
 use lib.Arith.{digits-div, digits-mod}
-use lib.Pow.{pow-pos, pow-mono}
+use lib.Pow.{pow-pos, pow-mono, pow-add}
 use lib.Bits.{bitOr, or-lt}
 use lib.Count.{onesIn, ones, ones-le}
 use Rattle.numbers.specs.Bytes.{at}
@@ -19,19 +19,19 @@ use Rattle.numbers.proofs.Bytes.{at-tabulate}
 use Rattle.numbers.proofs.Sums.{fold-ext, fold-closed}
 use Rattle.algebra.proofs.Value.{value-ext}
 use Rattle.algebra.proofs.Coefficients.{value-coefficient, coefficient-unique, coefficient-ext, coefficient-bit, coefficient-lt, coefficient-smaller, coefficient-missing}
-use Rattle.expansions.specs.Answers.{blockFunction, blockCharge, pairCharge}
+use Rattle.expansions.specs.Answers.{blockFunction, blockCharge, pairCharge, withoutConstant}
 use Rattle.expansions.specs.BlockTable.{entry, blockTable}
 use Rattle.expansions.specs.inner.Planes.{plane}
 use Rattle.expansions.specs.Costs.{counted}
 use Rattle.expansions.specs.declared.families.Family.{Family}
-use Rattle.expansions.specs.Rules.{Rule, weight, ruleOf}
-use Rattle.expansions.specs.inner.Charges.{literalCount, byteCharge}
-use Rattle.numbers.proofs.Bits.{bit-lt}
+use Rattle.expansions.specs.Rules.{Rule, weight, ruleOf, price}
+use Rattle.expansions.specs.inner.Charges.{literalCount, usedCharge, chargedTerms, constantIn}
+use Rattle.numbers.proofs.Bits.{bit-lt, bit-zero, bit-suc}
 use Rattle.numbers.proofs.Pack.{pack-ext, pack-lt, pack-bit, pack-bits, bit-ors}
 use Rattle.expansions.proofs.Blocks.{blockFunction-lt}
 use Rattle.expansions.proofs.Counted.{counted-mul, counted-bits, counted-le}
-use Rattle.expansions.proofs.Rules.{weight-le, weight-small}
-use Rattle.expansions.proofs.Costs.{sum-le}
+use Rattle.expansions.proofs.Rules.{weight-le, weight-product, weight-small, rule-some}
+use Rattle.expansions.proofs.Costs.{sum-le, sum-scaled, ones-zero, ones-some, charge, priced, price-other, priced-parts}
 use Rattle.expansions.proofs.Minimal.{pairCharge-le}
 use Rattle.expansions.proofs.Charges.{literalCount-ones, byteCharge-outside}
 
@@ -158,51 +158,120 @@ module _ (m k φ : ℕ) (g : ℕ → ℕ) (few : k ≤ 3) (polarity : φ < 2 ^ k
       ∙ ap (λ (x : ℕ). counted x 1)
       (ap (λ (n : ℕ). coefficient n φ whole t) (sym three) ∙ coefficient-missing k (3 - k) φ g t l (rw three h))
 
-  -- what a term is charged, by its bit
-  pub used-counted : (t x : ℕ) → t < 2 ^ k → counted (coefficient k φ g t) x ≡ bit t (used m k φ g) * x
-  used-counted t x h = counted-mul (coefficient k φ g t) x ∙ ap (λ (y : ℕ). y * x) (sym (used-bit t h))
-
-  -- what a block's terms are charged, where each has as many literals more outside the block
-  pub used-sum : (R : Rule) (outside : ℕ) → sumBelow (2 ^ k) (λ r. counted (coefficient k φ g r) (weight R (outside + ones r)))
-      ≡ sumBelow 8 (λ t. bit t (used m k φ g) * weight R (outside + literalCount t))
-  used-sum R outside =
-      let charged : ℕ → ℕ → ℕ = λ t l. bit t (used m k φ g) * weight R (outside + l) in
-      let e : 2 ^ k + (8 - 2 ^ k) ≡ 8 = omega (arith, places) in
+-- what terms are charged whose bits stand in a byte, where each has as many literals more outside the block
+module _ (k : ℕ) (few : k ≤ 3) (c : ℕ → ℕ) (u : ℕ) (byte : u < 2 ^ 8) (bits : (t : ℕ) → t < 2 ^ k → bit t u ≡ counted (c t) 1)
+    (missing : (t : ℕ) → 2 ^ k ≤ t → t < 8 → bit t u ≡ 0) (R : Rule) (outside : ℕ) where
+  pub byte-charge : sumBelow (2 ^ k) (λ r. counted (c r) (weight R (outside + ones r))) ≡ usedCharge R outside u
+  unfolding usedCharge
+  byte-charge =
+      let places : 2 ^ k ≤ 2 ^ 3 = pow-mono few in
+      let charged : ℕ → ℕ → ℕ = λ t l. bit t u * weight R (outside + l) in
+      let all : 2 ^ k + (8 - 2 ^ k) ≡ 8 = omega arith in
       fold-ext _+_ (2 ^ k) _ (λ t. charged t (literalCount t))
-      (λ t l. used-counted t (weight R (outside + ones t)) l ∙ ap (charged t) (sym (literalCount-ones t (omega (arith, places)))))
+      (λ t l.
+      counted-mul (c t) (weight R (outside + ones t)) ∙ ap (λ (y : ℕ). y * weight R (outside + ones t)) (sym (bits t l))
+      ∙ ap (charged t) (sym (literalCount-ones t (omega arith))))
       ∙ sym (sum-past (2 ^ k) (8 - 2 ^ k) (λ t. charged t (literalCount t))
-      (λ t l h. ap (λ (x : ℕ). x * weight R (outside + literalCount t)) (used-missing t l (omega arith)) ∙ zero-mul (weight R (outside + literalCount t))))
-      ∙ ap (λ (N : ℕ). sumBelow N (λ t. charged t (literalCount t))) e
+      (λ t l h. ap (λ (x : ℕ). x * weight R (outside + literalCount t)) (missing t l (omega arith)) ∙ zero-mul (weight R (outside + literalCount t))))
+      ∙ ap (λ (N : ℕ). sumBelow N (λ t. charged t (literalCount t))) all
+      ∙ byteCharge-outside R outside u byte
 
-  -- by the charge of one byte and its number of bits
-  pub used-charge : (R : Rule) (outside : ℕ) → sumBelow (2 ^ k) (λ r. counted (coefficient k φ g r) (weight R (outside + ones r)))
-      ≡ byteCharge R (used m k φ g) + outside * R .literal * ones (used m k φ g)
-  used-charge R outside = used-sum R outside ∙ byteCharge-outside R outside (used m k φ g) (used-lt m k φ g (omega (arith, places)))
+-- the bits of a byte without term 0
+even-bit : (c : ℕ → ℕ) (u t : ℕ) → bit t u ≡ counted (c t) 1 → bit t (u / 2 * 2) ≡ counted (withoutConstant c t) 1
+unfolding withoutConstant counted
+even-bit c u zero e = omega (arith, bit-zero (u / 2 * 2))
+even-bit c u (suc t) e = let half : u / 2 * 2 / 2 ≡ u / 2 = omega arith in bit-suc t (u / 2 * 2) ∙ ap (bit t) half ∙ sym (bit-suc t u) ∙ e
 
--- what a block of a member costs, by the byte of its terms
-pub blockCharge-byte : (R : Rule) (m n k : ℕ) (f : ℕ → ℕ) (M i j φ : ℕ) → k ≤ 3 → φ < 2 ^ k → onesIn n M ≡ k → ((p : ℕ) → p < 2 ^ n → f p < 2 ^ m)
-    → blockCharge R n k f M i j φ ≡ byteCharge R (used m k φ (blockFunction n k f M i j)) + ones j * R .literal * ones (used m k φ (blockFunction n k f M i j))
-unfolding blockCharge
-blockCharge-byte R m n k f M i j φ few polarity size outputs =
-    used-charge m k φ (blockFunction n k f M i j) few polarity (λ p l. blockFunction-lt m n k M i f outputs size j p) R (ones j)
+even-missing : (u t : ℕ) → 1 ≤ t → bit t u ≡ 0 → bit t (u / 2 * 2) ≡ 0
+even-missing u zero h e = absurd (omega arith)
+even-missing u (suc t) h e = let half : u / 2 * 2 / 2 ≡ u / 2 = omega arith in bit-suc t (u / 2 * 2) ∙ ap (bit t) half ∙ sym (bit-suc t u) ∙ e
+
+-- what a block of a member costs, by the byte of its terms and the coefficient at its place 0
+module _ (R : Rule) (m n k : ℕ) (f : ℕ → ℕ) (M i j φ : ℕ) (few : k ≤ 3) (polarity : φ < 2 ^ k) (size : onesIn n M ≡ k)
+    (outputs : (p : ℕ) → p < 2 ^ n → f p < 2 ^ m) where
+  g : ℕ → ℕ → ℕ
+  g b = blockFunction n k f M i b
+
+  terms : ℕ → ℕ
+  terms b = used m k φ (g b)
+
+  bytes : (b : ℕ) → terms b < 2 ^ 8
+  unfolding terms
+  bytes b = used-lt m k φ (g b) (omega (arith, pow-mono few))
+
+  block-bit : (b t : ℕ) → t < 2 ^ k → bit t (terms b) ≡ counted (coefficient k φ (g b) t) 1
+  unfolding terms g
+  block-bit b = used-bit m k φ (g b) few polarity (λ p l. blockFunction-lt m n k M i f outputs size b p)
+
+  block-missing : (b t : ℕ) → 2 ^ k ≤ t → t < 8 → bit t (terms b) ≡ 0
+  unfolding terms g
+  block-missing b = used-missing m k φ (g b) few polarity (λ p l. blockFunction-lt m n k M i f outputs size b p)
+
+  first-block : blockCharge R n k f M i 0 φ ≡ usedCharge R (ones 0) (terms 0 / 2 * 2) * 256 + coefficient k φ (g 0) 0
+  unfolding blockCharge g priced charge
+  first-block =
+      fold-ext _+_ (2 ^ k) _ (λ r. price R (ones r) (coefficient k φ (g 0) r))
+      (λ r l. ap (λ (x : ℕ). price R (x + ones r) (coefficient k φ (g 0) r)) ones-zero ∙ ap (λ (x : ℕ). price R x (coefficient k φ (g 0) r)) (zero-add (ones r)))
+      ∙ priced-from
+      ∙ ap (λ (x : ℕ). x * 256 + coefficient k φ (g 0) 0) charged
+    where
+      c : ℕ → ℕ
+      c = withoutConstant (coefficient k φ (g 0))
+
+      priced-from : sumBelow (2 ^ k) (λ r. price R (ones r) (coefficient k φ (g 0) r)) ≡ charge R k c * 256 + coefficient k φ (g 0) 0
+      priced-from = priced-parts R k (coefficient k φ (g 0))
+
+      charged : charge R k c ≡ usedCharge R (ones 0) (terms 0 / 2 * 2)
+      charged =
+          fold-ext _+_ (2 ^ k) _ (λ r. counted (c r) (weight R (ones 0 + ones r)))
+          (λ r l. ap (λ (x : ℕ). counted (c r) (weight R x)) (sym (ap (λ (y : ℕ). y + ones r) ones-zero ∙ zero-add (ones r))))
+          ∙ byte-charge k few c (terms 0 / 2 * 2) (omega (arith, bytes 0)) (λ t l. even-bit (coefficient k φ (g 0)) (terms 0) t (block-bit 0 t l))
+          (λ t l h. even-missing (terms 0) t (omega (arith, pow-pos k)) (block-missing 0 t l h)) R (ones 0)
+
+  other-block : (b : ℕ) → blockCharge R n k f M i (suc b) φ ≡ usedCharge R (ones (suc b)) (terms (suc b)) * 256
+  unfolding blockCharge g
+  other-block b =
+      fold-ext _+_ (2 ^ k) _ _ (λ r l. price-other R (ones (suc b) + ones r) _ (omega (arith, ones-some b)))
+      ∙ sum-scaled (2 ^ k) 256 (λ r. counted (coefficient k φ (g (suc b)) r) (weight R (ones (suc b) + ones r)))
+      ∙ ap (λ (x : ℕ). x * 256)
+      (byte-charge k few (coefficient k φ (g (suc b))) (terms (suc b)) (bytes (suc b)) (block-bit (suc b)) (block-missing (suc b)) R (ones (suc b)))
+
+  pub blockCharge-byte : blockCharge R n k f M i j φ
+      ≡ usedCharge R (ones j) (chargedTerms j (used m k φ (blockFunction n k f M i j))) * 256 + constantIn j (coefficient k φ (blockFunction n k f M i j) 0)
+  unfolding chargedTerms constantIn terms g
+  blockCharge-byte = go j
+    where
+      go : (b : ℕ) → blockCharge R n k f M i b φ ≡ usedCharge R (ones b) (chargedTerms b (terms b)) * 256 + constantIn b (coefficient k φ (g b) 0)
+      go zero = first-block
+      go (suc b) = other-block b ∙ sym (add-zero _)
 
 -- ---- bounds
 
--- each of the 2 ^ k terms of a block has at most n literals
-blockCharge-le : (R : Rule) (n k : ℕ) (f : ℕ → ℕ) (M i j φ : ℕ) → k ≤ n → j < 2 ^ (n - k) → blockCharge R n k f M i j φ ≤ 2 ^ k * weight R n
-unfolding blockCharge
-blockCharge-le R n k f M i j φ hk h =
-    sum-le (2 ^ k) (weight R n) _
-    (λ r l. counted-le (coefficient k φ (blockFunction n k f M i j) r) (weight R (ones j + ones r)) (weight R n)
-    (weight-le R (ones j + ones r) n (omega (arith, ones-le (n - k) j h, ones-le k r l))))
+-- what a product weighs is above every mask
+price-le : (R : Rule) (l most c : ℕ) → 0 < R .product → l ≤ most → c < 2 ^ 8 → price R l c ≤ weight R most * 256
+unfolding price
+price-le R zero most c some h byte = omega (arith, weight-product R most)
+price-le R (suc l) most c some h byte = mul-le-mul-right 256 (counted-le c (weight R (suc l)) (weight R most) (weight-le R (suc l) most h))
 
--- and so the charge of a pair is small
-pub pairCharge-small : (F : Family) (n k : ℕ) (f : ℕ → ℕ) (M i : ℕ) → n ≤ 8 → k ≤ 3 → k ≤ n
-    → pairCharge n k (blockCharge (ruleOf F) n k f M i) < 2 ^ 31
-pairCharge-small F n k f M i hn hk within =
-    let R : Rule = ruleOf F in
-    let blocks = pairCharge-le n k (2 ^ k * weight R n) (blockCharge R n k f M i) (λ j φ h l. blockCharge-le R n k f M i j φ within h) in
-    let product : weight R n ≤ 8192 = omega (arith, weight-small F n) in
-    let places : 2 ^ k * weight R n ≤ 2 ^ 3 * 8192 = mul-le-mul (pow-mono hk) product in
-    let most : 2 ^ (n - k) * (2 ^ k * weight R n) ≤ 2 ^ 8 * (2 ^ 3 * 8192) = mul-le-mul (pow-mono {j = 8} (omega arith)) places in
-    omega arith
+module _ (F : Family) (n k : ℕ) (f : ℕ → ℕ) (M i : ℕ) (hn : n ≤ 8) (within : k ≤ n) (size : onesIn n M ≡ k)
+    (outputs : (p : ℕ) → p < 2 ^ n → f p < 2 ^ 8) where
+  -- each of the 2 ^ k terms of a block has at most n literals
+  blockCharge-le : (j φ : ℕ) → j < 2 ^ (n - k) → φ < 2 ^ k → blockCharge (ruleOf F) n k f M i j φ ≤ 2 ^ k * (weight (ruleOf F) n * 256)
+  unfolding blockCharge
+  blockCharge-le j φ h l =
+      sum-le (2 ^ k) (weight (ruleOf F) n * 256) _
+      (λ r g. price-le (ruleOf F) (ones j + ones r) n (coefficient k φ (blockFunction n k f M i j) r) (rule-some F)
+      (omega (arith, ones-le (n - k) j h, ones-le k r g))
+      (coefficient-lt 8 k φ (blockFunction n k f M i j) l (λ s e. blockFunction-lt 8 n k M i f outputs size j s) r))
+
+  -- and so the charge of a pair is small
+  pub pairCharge-small : pairCharge n k (blockCharge (ruleOf F) n k f M i) < 2 ^ 31
+  pairCharge-small =
+      let W : ℕ = weight (ruleOf F) n * 256 in
+      let blocks = pairCharge-le n k (2 ^ k * W) (blockCharge (ruleOf F) n k f M i) blockCharge-le in
+      let small : weight (ruleOf F) n ≤ 8192 = omega (arith, weight-small F n) in
+      let product : W ≤ 8192 * 256 = mul-le-mul-right 256 small in
+      let inputs : n - k + k ≡ n = omega arith in
+      let all : 2 ^ (n - k) * (2 ^ k * W) ≡ 2 ^ n * W = sym (mul-assoc (2 ^ (n - k)) (2 ^ k) W) ∙ ap (λ (x : ℕ). x * W) (sym (pow-add 2 (n - k) k) ∙ ap (λ (x : ℕ). 2 ^ x) inputs) in
+      let most : 2 ^ n * W ≤ 2 ^ 8 * (8192 * 256) = mul-le-mul (pow-mono hn) product in
+      omega arith

@@ -1,6 +1,6 @@
 -- The block method: an expansion in the class is an expansion over the inputs outside M whose coefficients are the values of the blocks,
--- each an expansion over the inputs of M (`value-blocks`). So the member's coefficients exist (`member-gives`) and are the only ones
--- (`member-unique`): on the term t those of one polarity, the term's own (`member-coefficient`).
+-- each an expansion over the inputs of M (`value-blocks`). So the member's coefficients exist (`member-expands`) and are the only ones
+-- (`member-unique`), with no inverter: on the term t those of one polarity, the term's own (`member-coefficient`).
 use mathlib.Core.Path.{_≡_, refl, sym, ap, ap₂, _∙_}
 use mathlib.Core.Bool.{Bool, true, false, _&&_, and-assoc}
 use Prim.Native.Nat.{ℕ, zero, suc, _+_, _-_, _*_, _/_, _%_, _^_, _<_}
@@ -20,7 +20,7 @@ use Rattle.numbers.proofs.Tests.{only-and}
 use Rattle.algebra.proofs.Value.{value-ext, value-unique}
 use Rattle.algebra.proofs.Coefficients.{value-coefficient, coefficient-unique, coefficient-lt}
 use Rattle.expansions.specs.Split.{putDigit, gather, outside, join}
-use Rattle.expansions.specs.Members.{block, place, polarity, Member, Gives}
+use Rattle.expansions.specs.Members.{block, place, polarity, Member}
 use Rattle.expansions.specs.Answers.{blockFunction, memberCoefficient}
 use Rattle.expansions.proofs.Split.{outside-half, outside-low, ones-others, gather-lt, spread-zero, gather-join, gather-outside-join, join-gather, join-lt, sums}
 
@@ -90,6 +90,10 @@ unfolding only
 xor-only N true g = refl
 xor-only N false g = xor-zero N
 
+-- a member gives the table with no output inverted
+abbrev pub Expands : (n M i : ℕ) → (φ c f : ℕ → ℕ) → Type 0
+Expands n M i φ c f = (p : ℕ) → p < 2 ^ n → value n (polarity n M i φ) c p ≡ f p
+
 module _ (n k M i : ℕ) (φ : ℕ → ℕ) (member : Member n k M i φ) where
   others : onesIn n (outside n M) ≡ n - k
   others = ones-others n k M (member .size)
@@ -141,9 +145,9 @@ module _ (n k M i : ℕ) (φ : ℕ → ℕ) (member : Member n k M i φ) where
   member-join f j r hj hr = rw (block-join j r hj, place-join j r hr)
 
   -- they give the table
-  pub member-gives : (f : ℕ → ℕ) → Gives n M i φ (memberCoefficient n k f M i φ) f
+  pub member-expands : (f : ℕ → ℕ) → Expands n M i φ (memberCoefficient n k f M i φ) f
   unfolding blockFunction
-  member-gives f p h =
+  member-expands f p h =
       value-blocks (memberCoefficient n k f M i φ) p
       ∙ value-ext (n - k) _ _ (coefficient (n - k) (block n M i) across) (block n M p) (λ j l. inBlock j l)
       ∙ value-coefficient (n - k) (block n M i) across (block-lt i) (block n M p) (block-lt p)
@@ -159,9 +163,9 @@ module _ (n k M i : ℕ) (φ : ℕ → ℕ) (member : Member n k M i φ) where
           ∙ value-coefficient k (φ j) (blockFunction n k f M i j) (member .inner j l) (place n M p) (place-lt p)
 
   -- and no others do
-  pub member-unique : (f c : ℕ → ℕ) → Gives n M i φ c f → (t : ℕ) → t < 2 ^ n → c t ≡ memberCoefficient n k f M i φ t
+  pub member-unique : (f c : ℕ → ℕ) → Expands n M i φ c f → (t : ℕ) → t < 2 ^ n → c t ≡ memberCoefficient n k f M i φ t
   member-unique f c g =
-      value-unique n (polarity n M i φ) c (memberCoefficient n k f M i φ) (λ p h. g p h ∙ sym (member-gives f p h))
+      value-unique n (polarity n M i φ) c (memberCoefficient n k f M i φ) (λ p h. g p h ∙ sym (member-expands f p h))
 
 -- bits m and above stay 0
 module _ (m n k M i : ℕ) (f : ℕ → ℕ) (outputs : (p : ℕ) → p < 2 ^ n → f p < 2 ^ m) where
@@ -189,7 +193,7 @@ pub member-coefficient : (n k M i : ℕ) (φ f : ℕ → ℕ) → Member n k M i
 unfolding polarity
 member-coefficient n k M i φ f member t h =
     member-ext n k f M i φ same t refl
-    ∙ coefficient-unique n (polarity n M i φ t) f (memberCoefficient n k f M i same) (polarity-lt n k M i φ member t) (member-gives n k M i same alike f) t h
+    ∙ coefficient-unique n (polarity n M i φ t) f (memberCoefficient n k f M i same) (polarity-lt n k M i φ member t) (member-expands n k M i same alike f) t h
   where
     -- the polarity of t's block in every block
     same : ℕ → ℕ

@@ -1,24 +1,26 @@
 -- What an expansion costs. Its charge under a rule is its products and its literals, each times its weight (`charge-parts`); under a family's rule they
--- are had back from it (`charge-products`, `charge-literals`), for there are fewer than 4,096 literals (`literals-lt`). The charge of a member is the
--- sum of its blocks' charges (`charge-blocks`).
+-- are had back from it (`charge-products`, `charge-literals`), for there are fewer than 4,096 literals (`literals-lt`). With inverters the terms' prices
+-- are 256 times the charge without the constant, and the coefficient of the constant (`priced-parts`); they are the sum of the blocks' charges
+-- (`priced-blocks`).
 use mathlib.Core.Path.{_≡_, refl, sym, ap, _∙_}
 use Prim.Native.Nat.{ℕ, zero, suc, _+_, _-_, _*_, _^_, _≤_, _<_}
 use native.Mathlib.Nat.{mul-le-mul, mul-suc, pow-suc, zero-mul, zero-add, add-mul, add-assoc, add-comm, add-zero}
 use native.Mathlib.Omega.{arith}
-use lib.Count.{onesIn, ones}
-use lib.Pow.{pow-mono}
+use lib.Arith.{bin-ind}
+use lib.Count.{onesIn, ones, ones-step}
+use lib.Pow.{pow-mono, suc-ones}
 use Rattle.numbers.specs.Sums.{foldBelow, sumBelow}
 use Rattle.algebra.specs.Coefficients.{coefficient}
 use Rattle.numbers.proofs.Sums.{fold-zero, fold-ext, fold-map, fold-op, fold-split}
-use Rattle.expansions.specs.Members.{block, place, Member, Gives}
+use Rattle.expansions.specs.Members.{block, place}
 use Rattle.expansions.specs.declared.families.Family.{Family}
 use Rattle.expansions.specs.Costs.{counted, products, literals}
-use Rattle.expansions.specs.Rules.{costOf, tieOf, Rule, weight, ruleOf}
-use Rattle.expansions.specs.Answers.{blockFunction, blockCharge, memberCoefficient}
+use Rattle.expansions.specs.Rules.{costOf, tieOf, Rule, weight, ruleOf, price}
+use Rattle.expansions.specs.Answers.{blockFunction, blockCharge, memberCoefficient, withoutConstant}
 use Rattle.expansions.proofs.Split.{ones-others, sums}
 use Rattle.expansions.proofs.Counted.{counted-le}
 use Rattle.expansions.proofs.Rules.{counted-weight, base, rule-cost, tie-lt, rule-products, rule-literals}
-use Rattle.expansions.proofs.Blocks.{ones-digit, ones-parts, member-unique}
+use Rattle.expansions.proofs.Blocks.{ones-digit, ones-parts}
 
 -- the products' weights under a rule, summed
 unfoldable pub charge : Rule → ℕ → (ℕ → ℕ) → ℕ
@@ -124,26 +126,71 @@ module _ (F : Family) (n : ℕ) (c : ℕ → ℕ) (h : n ≤ 8) where
   pub charge-literals : ruleOf F .literalsIn (charge (ruleOf F) n c) ≡ literals n c
   charge-literals = ap (ruleOf F .literalsIn) (charge-parts (ruleOf F) n c) ∙ rule-literals F (products n c) (literals n c) few (literals-lt n c h)
 
-module _ (R : Rule) where
-  pub charge-ext : (n : ℕ) (c d : ℕ → ℕ) → ((t : ℕ) → t < 2 ^ n → c t ≡ d t) → charge R n c ≡ charge R n d
-  unfolding charge
-  charge-ext n c d e = counted-ext n (λ t. weight R (ones t)) c d e
+pub charge-ext : (R : Rule) (n : ℕ) (c d : ℕ → ℕ) → ((t : ℕ) → t < 2 ^ n → c t ≡ d t) → charge R n c ≡ charge R n d
+unfolding charge
+charge-ext R n c d e = counted-ext n (λ t. weight R (ones t)) c d e
 
-  -- the charge of the member's coefficients, by blocks
-  pub charge-blocks : (n k : ℕ) (f : ℕ → ℕ) (M i : ℕ) (φ : ℕ → ℕ) → onesIn n M ≡ k
-      → charge R n (memberCoefficient n k f M i φ) ≡ sumBelow (2 ^ (n - k)) (λ j. blockCharge R n k f M i j (φ j))
-  unfolding charge memberCoefficient blockCharge
-  charge-blocks n k f M i φ size =
+-- ---- with inverters
+
+-- the terms' prices, summed
+unfoldable pub priced : Rule → ℕ → (ℕ → ℕ) → ℕ
+priced R n c = sumBelow (2 ^ n) (λ t. price R (ones t) (c t))
+
+ones-none : (t : ℕ) → ones t ≡ 0 → t ≡ 0
+ones-none = bin-ind (λ (t : ℕ). ones t ≡ 0 → t ≡ 0) (λ e. refl) (λ t ih e. omega (arith, ones-step t, ih (omega (arith, ones-step t))))
+
+pub ones-zero : ones 0 ≡ 0
+unfolding ones
+ones-zero = refl
+
+-- every term but the constant has a literal
+pub ones-some : (t : ℕ) → 0 < ones (suc t)
+ones-some t = let no : ¬ (ones (suc t) ≡ 0) = λ e. omega (arith, ones-none (suc t) e) in omega arith
+
+-- two sums over all terms that differ at the constant only
+pub terms-apart : (n : ℕ) (g h : ℕ → ℕ) (a : ℕ) → g 0 ≡ a → h 0 ≡ 0 → ((t : ℕ) → g (suc t) ≡ h (suc t)) → sumBelow (2 ^ n) g ≡ sumBelow (2 ^ n) h + a
+unfolding foldBelow
+terms-apart n g h a e z f = rw (← suc-ones n) (go (2 ^ n - 1))
+  where
+    go : (N : ℕ) → sumBelow (suc N) g ≡ sumBelow (suc N) h + a
+    go zero = omega arith
+    go (suc N) = omega (arith, go N, f N)
+
+module _ (R : Rule) where
+  pub price-constant : (l c : ℕ) → l ≡ 0 → price R l c ≡ c
+  unfolding price
+  price-constant zero c e = refl
+  price-constant (suc l) c e = absurd (omega arith)
+
+  pub price-other : (l c : ℕ) → 0 < l → price R l c ≡ counted c (weight R l) * 256
+  unfolding price
+  price-other zero c h = absurd (omega arith)
+  price-other (suc l) c h = refl
+
+  -- 256 times what the other terms cost, and the coefficient of the constant
+  pub priced-parts : (n : ℕ) (c : ℕ → ℕ) → priced R n c ≡ charge R n (withoutConstant c) * 256 + c 0
+  unfolding priced charge withoutConstant counted
+  priced-parts n c =
+      terms-apart n (λ t. price R (ones t) (c t)) (λ t. counted (withoutConstant c t) (weight R (ones t)) * 256) (c 0)
+      (price-constant (ones 0) (c 0) ones-zero) refl (λ t. price-other (ones (suc t)) (c (suc t)) (ones-some t))
+      ∙ ap (λ (x : ℕ). x + c 0) (sum-scaled (2 ^ n) 256 (λ t. counted (withoutConstant c t) (weight R (ones t))))
+
+  -- the constant as a product
+  pub charge-apart : (n : ℕ) (c : ℕ → ℕ) → charge R n c ≡ charge R n (withoutConstant c) + counted (c 0) (weight R 0)
+  unfolding charge withoutConstant counted
+  charge-apart n c =
+      terms-apart n (λ t. counted (c t) (weight R (ones t))) (λ t. counted (withoutConstant c t) (weight R (ones t))) (counted (c 0) (weight R 0))
+      (ap (λ (l : ℕ). counted (c 0) (weight R l)) ones-zero) refl (λ t. refl)
+
+  -- the prices of the member's coefficients, by blocks
+  pub priced-blocks : (n k : ℕ) (f : ℕ → ℕ) (M i : ℕ) (φ : ℕ → ℕ) → onesIn n M ≡ k
+      → priced R n (memberCoefficient n k f M i φ) ≡ sumBelow (2 ^ (n - k)) (λ j. blockCharge R n k f M i j (φ j))
+  unfolding priced memberCoefficient blockCharge
+  priced-blocks n k f M i φ size =
       fold-ext _+_ (2 ^ n) _ (λ t. summand (block n M t) (place n M t))
-      (λ t h. ap (λ (l : ℕ). counted (memberCoefficient n k f M i φ t) (weight R l)) (ones-parts n M t h))
+      (λ t h. ap (λ (l : ℕ). price R l (memberCoefficient n k f M i φ t)) (ones-parts n M t h))
       ∙ sums _+_ add-assoc add-comm add-zero n M summand
       ∙ rw (ones-others n k M size, size)
     where
       summand : ℕ → ℕ → ℕ
-      summand j r = counted (coefficient k (φ j) (blockFunction n k f M i j) r) (weight R (ones j + ones r))
-
-  -- and so that of every expansion of the member's terms that gives f
-  pub charge-member : (n k : ℕ) (f : ℕ → ℕ) (M i : ℕ) (φ c : ℕ → ℕ) → Member n k M i φ → Gives n M i φ c f
-      → charge R n c ≡ sumBelow (2 ^ (n - k)) (λ j. blockCharge R n k f M i j (φ j))
-  charge-member n k f M i φ c member gives =
-      charge-ext n c (memberCoefficient n k f M i φ) (member-unique n k M i φ member f c gives) ∙ charge-blocks n k f M i φ (member .size)
+      summand j r = price R (ones j + ones r) (coefficient k (φ j) (blockFunction n k f M i j) r)

@@ -88,6 +88,10 @@ then-sum (suc N) a b P h =
 pub then-chain : (P : ℕ → Type 0) (a b c x y : ℕ) → LeastThen a b (x ≤ y) → LeastThen b c (P y) → LeastThen a c (LeastThen x y (P x))
 then-chain P a b c x y f g = then-map a c (λ d. then-from x y (d .0) (λ e. subst P (sym e) (d .1))) (then-trans a b c f g)
 
+-- An order that goes through one in between: b costs no more than c, and as much only where u is v.
+pub then-through : {P : Type 0} (a b c m u v : ℕ) → LeastThen a b (LeastThen m u P) → LeastThen b c (u ≡ v) → LeastThen a c (LeastThen m v P)
+then-through {P} a b c m u v f g = then-map a c (λ d. subst (λ (w : ℕ). LeastThen m w P) (d .1) (d .0)) (then-trans a b c f g)
+
 -- ---- the first least index
 
 -- b is the first of the valid indices below N that have the least charge

@@ -9,6 +9,7 @@ pub mod Lowest
 pub mod Counted
 pub mod Rules
 pub mod Costs
+pub mod Inverters
 pub mod Minimal
 pub mod Answers
 pub mod Charges

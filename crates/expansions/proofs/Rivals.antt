@@ -8,9 +8,9 @@ use Rattle.expansions.specs.kronecker.Costs.{kroneckerLiterals}
 use Rattle.expansions.specs.Rivals.{Rival, block, kronecker}
 
 pub block-rivals : (n k : ℕ) (f : ℕ → ℕ) (P : ℕ → ℕ → Type 0)
-    → ((M i : ℕ) (φ c : ℕ → ℕ) → Member n k M i φ → Gives n M i φ c f → P (products n c) (literals n c))
+    → ((v M i : ℕ) (φ c : ℕ → ℕ) → Member n k M i φ → Gives n v M i φ c f → P (products n c) (literals n c))
     → (p l : ℕ) → Rival n f (Block k) p l → P p l
-block-rivals n k f P h p l (block _ M i φ c member gives) = h M i φ c member gives
+block-rivals n k f P h p l (block _ v M i φ c member gives) = h v M i φ c member gives
 
 pub kronecker-rivals : (n : ℕ) (f : ℕ → ℕ) (P : ℕ → ℕ → Type 0)
     → ((letters c : ℕ → ℕ) → IsKind n letters → KroneckerGives n letters c f → P (products n c) (kroneckerLiterals n letters c))

@@ -67,6 +67,9 @@ pub rule-outweighs : (F : Family) → OutweighsFour (ruleOf F)
 rule-outweighs One = record { some = omega arith; four = omega arith }
 rule-outweighs Two = record { some = omega arith; four = omega arith }
 
+pub rule-some : (F : Family) → 0 < ruleOf F .product
+rule-some F = omega (arith, rule-outweighs F .four)
+
 -- the bounds of the two weights
 pub rule-small : (F : Family) → (ruleOf F .product ≤ 4096) × (ruleOf F .literal ≤ 512)
 rule-small One = (omega arith, omega arith)
@@ -77,3 +80,9 @@ unfolding weight
 weight-small F l =
     let same : l ≤ l = omega arith in
     omega (arith, rule-small F, mul-le-mul same (rule-small F .1))
+
+-- the most that a product weighs: it has at most three literals in its block and eight outside it
+pub weight-eleven : (F : Family) → weight (ruleOf F) 11 ≤ 7681
+unfolding weight
+weight-eleven One = omega arith
+weight-eleven Two = omega arith

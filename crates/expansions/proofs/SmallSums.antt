@@ -3,7 +3,7 @@
 -- (`literals-apart`), so that under a rule by which a product weighs more than four literals a lesser sum stands for a lesser charge
 -- (`usedCharge-lt`), and the first least of the polarities by their small sums is the first least by their charges (`leastPolarity-sums`).
 use mathlib.Core.Path.{_≡_, refl, sym, ap, ap₂, _∙_}
-use Prim.Native.Nat.{ℕ, zero, suc, _+_, _*_, _^_, _≤_, _<_}
+use Prim.Native.Nat.{ℕ, zero, suc, _+_, _*_, _/_, _%_, _^_, _≤_, _<_}
 use native.Mathlib.Nat.{mul-add, add-mul, mul-assoc, mul-comm, mul-le-mul, mul-le-mul-right, suc-mul, one-mul, mul-one, le-of-suc-le-suc}
 use native.Mathlib.Decide.{decLt}
 use native.Mathlib.Omega.{arith}
@@ -125,18 +125,38 @@ module _ (R : Rule) (more : ℕ) where
 
 -- ---- the first least polarity
 
-module _ (R : Rule) (outweighs : OutweighsFour R) (k more : ℕ) (sums used : ℕ → ℕ) (bytes : (φ : ℕ) → φ < 2 ^ k → used φ < 2 ^ 8)
-    (e : (φ : ℕ) → φ < 2 ^ k → sums φ ≡ smallSum (used φ)) where
-  charged : (φ : ℕ) → φ < 2 ^ k → sumCharge R more (sums φ) ≡ usedCharge R more (used φ)
-  charged φ h = ap (sumCharge R more) (e φ h) ∙ sym (usedCharge-sum R more (used φ) (bytes φ h))
+-- with a mask below each sum
+module _ (R : Rule) (outweighs : OutweighsFour R) (k more : ℕ) (sums used masks : ℕ → ℕ) (bytes : (φ : ℕ) → φ < 2 ^ k → used φ < 2 ^ 8)
+    (e : (φ : ℕ) → φ < 2 ^ k → sums φ ≡ smallSum (used φ)) (small : (φ : ℕ) → φ < 2 ^ k → masks φ < 256) where
+  abbrev pub summed : ℕ → ℕ
+  summed φ = sums φ * 256 + masks φ
 
-  pub leastPolarity-sums : leastPolarity k sums ≡ leastPolarity k (λ φ. usedCharge R more (used φ))
+  abbrev pub charged : ℕ → ℕ
+  charged φ = usedCharge R more (used φ) * 256 + masks φ
+
+  stands-for : (φ : ℕ) → φ < 2 ^ k → sumCharge R more (sums φ) ≡ usedCharge R more (used φ)
+  stands-for φ h = ap (sumCharge R more) (e φ h) ∙ sym (usedCharge-sum R more (used φ) (bytes φ h))
+
+  same-charge : (φ ψ : ℕ) → φ < 2 ^ k → ψ < 2 ^ k → sums φ ≡ sums ψ → usedCharge R more (used φ) ≡ usedCharge R more (used ψ)
+  same-charge φ ψ h l c = sym (stands-for φ h) ∙ ap (sumCharge R more) c ∙ stands-for ψ l
+
+  charged-lt : (φ ψ : ℕ) → φ < 2 ^ k → ψ < 2 ^ k → summed φ < summed ψ → charged φ < charged ψ
+  charged-lt φ ψ h l c = go (decLt (sums φ) (sums ψ))
+    where
+      go : Dec (sums φ < sums ψ) → charged φ < charged ψ
+      go (yes d) = omega (arith, small φ h, usedCharge-lt R more outweighs (used φ) (used ψ) (bytes φ h) (bytes ψ l) (rw (← (e φ h), ← (e ψ l)) d))
+      go (no d) = omega (arith, same-charge φ ψ h l (omega (arith, small ψ l)))
+
+  pub leastPolarity-sums : leastPolarity k summed ≡ leastPolarity k charged
   leastPolarity-sums =
-      leastPolarity-alike k sums (λ φ. usedCharge R more (used φ))
-      (λ φ ψ h l c. usedCharge-lt R more outweighs (used φ) (used ψ) (bytes φ h) (bytes ψ l) (rw (← (e φ h), ← (e ψ l)) c))
-      (λ φ ψ h l c. sym (charged φ h) ∙ ap (sumCharge R more) c ∙ charged ψ l)
+      leastPolarity-alike k summed charged charged-lt
+      (λ φ ψ h l c. omega (arith, same-charge φ ψ h l (omega (arith, small φ h, small ψ l)), small φ h, small ψ l))
 
   -- and the charge under it
-  pub sumCharge-least : sumCharge R more (sums (leastPolarity k sums)) ≡ usedCharge R more (used (leastPolarity k (λ φ. usedCharge R more (used φ))))
+  pub sumCharge-least : sumCharge R more (summed (leastPolarity k summed) / 256) * 256 + summed (leastPolarity k summed) % 256 ≡ charged (leastPolarity k charged)
   sumCharge-least =
-      charged (leastPolarity k sums) (polarity-first k sums .below) ∙ ap (λ (φ : ℕ). usedCharge R more (used φ)) leastPolarity-sums
+      let φ : ℕ = leastPolarity k summed in
+      let h : φ < 2 ^ k = polarity-first k summed .below in
+      ap₂ (λ (x y : ℕ). sumCharge R more x * 256 + y) (digits-div (sums φ) (small φ h)) (digits-mod (sums φ) (small φ h))
+      ∙ ap (λ (x : ℕ). x * 256 + masks φ) (stands-for φ h)
+      ∙ ap charged leastPolarity-sums

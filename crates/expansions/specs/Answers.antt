@@ -2,7 +2,7 @@
 -- Then as a function, block by block. The function's result is that member, and the only one (proofs/Answers, `answer-is`, `answer-only`).
 use mathlib.Core.Bool.{Bool, true, _&&_}
 use mathlib.Core.Path.{_≡_}
-use Prim.Native.Nat.{ℕ, _+_, _-_, _*_, _/_, _%_, _^_, _≤_, _<_}
+use Prim.Native.Nat.{ℕ, zero, suc, _+_, _-_, _*_, _/_, _%_, _^_, _≤_, _<_}
 use lib.Count.{onesIn, ones}
 use lib.Dec.{eqb, ltb}
 use Rattle.numbers.specs.Sums.{sumBelow}
@@ -10,34 +10,37 @@ use Rattle.numbers.specs.Tests.{only}
 use Rattle.algebra.specs.Coefficients.{coefficient}
 use Rattle.expansions.specs.Split.{gather, outside, join}
 use Rattle.expansions.specs.Members.{block, place, Member, Gives}
-use Rattle.expansions.specs.Costs.{counted, products, literals}
+use Rattle.expansions.specs.Costs.{products, literals}
 use Rattle.expansions.specs.declared.families.Family.{Family}
-use Rattle.expansions.specs.Rules.{costOf, tieOf, NoDearer, Rule, weight, ruleOf}
+use Rattle.expansions.specs.Rules.{costOf, tieOf, NoDearer, Rule, price, ruleOf}
 use Rattle.expansions.specs.Least.{LeastThen, firstLeast, chosen}
 
 -- ---- the answer in the documents' words
 
 -- family one: "fewest products, then fewest literals, then least M, then least i, then in each block the least φj"; family two: "minimised by that
--- charge, and among equal charges by fewest products, then in 01's order"
-abbrev pub NotAfter : Family → ℕ → ℕ → (M i : ℕ) (φ c : ℕ → ℕ) → (M′ i′ : ℕ) (φ′ c′ : ℕ → ℕ) → Type 0
-NotAfter F n k M i φ c M′ i′ φ′ c′ =
+-- charge, and among equal charges by fewest products, then in 01's order"; in both, W-205: "Equal costs (with `table2`, equal charge and equal
+-- products) go to the least mask, then to the least M, i and φj as in 01."
+abbrev pub NotAfter : Family → ℕ → ℕ → (v M i : ℕ) (φ c : ℕ → ℕ) → (v′ M′ i′ : ℕ) (φ′ c′ : ℕ → ℕ) → Type 0
+NotAfter F n k v M i φ c v′ M′ i′ φ′ c′ =
     LeastThen (costOf F (products n c) (literals n c)) (costOf F (products n c′) (literals n c′))
     (LeastThen (tieOf F (products n c) (literals n c)) (tieOf F (products n c′) (literals n c′))
-    (LeastThen M M′ (LeastThen i i′ ((j : ℕ) → j < 2 ^ (n - k) → φ j ≤ φ′ j))))
+    (LeastThen v v′ (LeastThen M M′ (LeastThen i i′ ((j : ℕ) → j < 2 ^ (n - k) → φ j ≤ φ′ j)))))
 
--- "The answer is the member that gives the table with fewest products, ..": no other that gives it, with "any coefficients", comes before it
-pub record IsAnswer (F : Family) (n k : ℕ) (f : ℕ → ℕ) (M i : ℕ) (φ c : ℕ → ℕ) : Type 0 where
+-- "The answer is the member that gives the table with fewest products, ..": no other that gives it, with "any coefficients" and any inversion mask,
+-- comes before it
+pub record IsAnswer (F : Family) (n k : ℕ) (f : ℕ → ℕ) (v M i : ℕ) (φ c : ℕ → ℕ) : Type 0 where
   pub member : Member n k M i φ
-  pub gives : Gives n M i φ c f
-  pub first : (M′ i′ : ℕ) (φ′ c′ : ℕ → ℕ) → Member n k M′ i′ φ′ → Gives n M′ i′ φ′ c′ f → NotAfter F n k M i φ c M′ i′ φ′ c′
+  pub gives : Gives n v M i φ c f
+  pub first : (v′ M′ i′ : ℕ) (φ′ c′ : ℕ → ℕ) → Member n k M′ i′ φ′ → Gives n v′ M′ i′ φ′ c′ f → NotAfter F n k v M i φ c v′ M′ i′ φ′ c′
 
 -- An answer with its counts p and l: "Products are the terms with c[t] not 0; literals are the bits set in those t, summed"
-pub record Minimal (F : Family) (n k : ℕ) (f : ℕ → ℕ) (M i : ℕ) (φ c : ℕ → ℕ) (p l : ℕ) : Type 0 where
-  pub answer : IsAnswer F n k f M i φ c
+pub record Minimal (F : Family) (n k : ℕ) (f : ℕ → ℕ) (v M i : ℕ) (φ c : ℕ → ℕ) (p l : ℕ) : Type 0 where
+  pub answer : IsAnswer F n k f v M i φ c
   pub products-counted : p ≡ products n c
   pub literals-counted : l ≡ literals n c
-  -- every other expansion of the class that gives these outputs, with "any coefficients", costs at least as much, as the family weighs them
-  pub cheapest : (M′ i′ : ℕ) (φ′ c′ : ℕ → ℕ) → Member n k M′ i′ φ′ → Gives n M′ i′ φ′ c′ f
+  -- every other expansion of the class that gives these outputs, with "any coefficients" and any inversion mask, costs at least as much, as the family
+  -- weighs them
+  pub cheapest : (v′ M′ i′ : ℕ) (φ′ c′ : ℕ → ℕ) → Member n k M′ i′ φ′ → Gives n v′ M′ i′ φ′ c′ f
       → NoDearer F p l (products n c′) (literals n c′)
 
 -- ---- the answer as a function
@@ -46,13 +49,13 @@ pub record Minimal (F : Family) (n k : ℕ) (f : ℕ → ℕ) (M i : ℕ) (φ c 
 unfoldable pub blockFunction : ℕ → ℕ → (ℕ → ℕ) → (M i j : ℕ) → ℕ → ℕ
 blockFunction n k f M i j s = coefficient (n - k) (gather n (outside n M) i) (λ q. f (join n M q s)) j
 
--- the coefficient of the term t in the member M, i, φ that gives f: that of its place, in the function of its block, under φj
+-- the coefficient of the term t in the member M, i, φ that gives f with no inverter: that of its place, in the function of its block, under φj
 unfoldable pub memberCoefficient : ℕ → ℕ → (ℕ → ℕ) → (M i : ℕ) → (ℕ → ℕ) → ℕ → ℕ
 memberCoefficient n k f M i φ t = coefficient k (φ (block n M t)) (blockFunction n k f M i (block n M t)) (place n M t)
 
--- what the block j costs under the block polarity φ, by a rule
+-- what the block j costs under the block polarity φ, by a rule; block 0 has the constant, whose coefficient goes into the inversion mask
 unfoldable pub blockCharge : Rule → ℕ → ℕ → (ℕ → ℕ) → (M i j φ : ℕ) → ℕ
-blockCharge R n k f M i j φ = sumBelow (2 ^ k) (λ r. counted (coefficient k φ (blockFunction n k f M i j) r) (weight R (ones j + ones r)))
+blockCharge R n k f M i j φ = sumBelow (2 ^ k) (λ r. price R (ones j + ones r) (coefficient k φ (blockFunction n k f M i j) r))
 
 -- "in each block the least φj" of those under which the block, by its charge, costs least
 unfoldable pub leastPolarity : ℕ → (ℕ → ℕ) → ℕ
@@ -88,7 +91,20 @@ unfoldable pub answerPolarity : Family → ℕ → ℕ → (ℕ → ℕ) → ℕ
 answerPolarity F n k f j =
     only (ltb j (2 ^ (n - k))) (leastPolarity k (blockCharge (ruleOf F) n k f (answerMixed F n k f) (answerFixed F n k f) j))
 
+-- the answer's coefficient of the term t before the constant is taken for the mask, "zero from 2^n on"
+unfoldable pub expandedCoefficient : Family → ℕ → ℕ → (ℕ → ℕ) → ℕ → ℕ
+expandedCoefficient F n k f t =
+    only (ltb t (2 ^ n)) (memberCoefficient n k f (answerMixed F n k f) (answerFixed F n k f) (answerPolarity F n k f) t)
+
+-- the answer's inversion mask: the constant 1 on an output is that output inverted, and "inverters are free"
+unfoldable pub answerInverted : Family → ℕ → ℕ → (ℕ → ℕ) → ℕ
+answerInverted F n k f = expandedCoefficient F n k f 0
+
+-- the coefficients of all terms but the constant, which has none
+unfoldable pub withoutConstant : (ℕ → ℕ) → ℕ → ℕ
+withoutConstant c zero = 0
+withoutConstant c (suc t) = c (suc t)
+
 -- the answer's coefficient of the term t, "zero from 2^n on"
 unfoldable pub answerCoefficient : Family → ℕ → ℕ → (ℕ → ℕ) → ℕ → ℕ
-answerCoefficient F n k f t =
-    only (ltb t (2 ^ n)) (memberCoefficient n k f (answerMixed F n k f) (answerFixed F n k f) (answerPolarity F n k f) t)
+answerCoefficient F n k f = withoutConstant (expandedCoefficient F n k f)

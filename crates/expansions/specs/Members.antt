@@ -1,6 +1,7 @@
--- Document 01, "The class of expansions": a member, the polarities of its terms, and the table that it gives.
+-- Document 01, "The class of expansions": a member, the polarities of its terms, and, with document 02's inverters (W-205), the table that it gives.
 use mathlib.Core.Path.{_≡_}
 use Prim.Native.Nat.{ℕ, _+_, _-_, _^_, _<_}
+use lib.Bits.{bitXor}
 use lib.Count.{onesIn}
 use Rattle.algebra.specs.Terms.{value}
 use Rattle.expansions.specs.Split.{gather, spread, outside}
@@ -25,6 +26,8 @@ pub record Member (n k M i : ℕ) (φ : ℕ → ℕ) : Type 0 where
   pub clear : gather n M i ≡ 0
   pub inner : (j : ℕ) → j < 2 ^ (n - k) → φ j < 2 ^ k
 
--- "A member gives the table whose byte p, at every point p, is the exclusive OR of c[t] over its terms whose literals are all true at p"
-abbrev pub Gives : ℕ → ℕ → ℕ → (ℕ → ℕ) → (ℕ → ℕ) → (ℕ → ℕ) → Type 0
-Gives n M i φ c f = (p : ℕ) → p < 2 ^ n → value n (polarity n M i φ) c p ≡ f p
+-- "A member gives the table whose byte p, at every point p, is the exclusive OR of c[t] over its terms whose literals are all true at p", and document
+-- 02, W-205: "An output is the exclusive OR of its terms, then inverted where marked; correctness is measured after the inverter". v is the
+-- "inversion mask (bit o for output o)"
+abbrev pub Gives : (n v M i : ℕ) → (φ c f : ℕ → ℕ) → Type 0
+Gives n v M i φ c f = (p : ℕ) → p < 2 ^ n → bitXor (value n (polarity n M i φ) c p) v ≡ f p

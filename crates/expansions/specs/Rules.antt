@@ -1,10 +1,11 @@
 -- The rules by which the part families charge. Document 02, W-203: "The cost of a block is now a charge under a stated rule". First what each family
 -- compares, in words; then the same as one number, a sum over the products. That the number says the same, and that products and literals are had back
--- from it, are the laws `charge-cost`, `charge-products` and `charge-literals` of proofs/Costs.
-use Prim.Native.Nat.{ℕ, _+_, _-_, _*_, _/_, _%_, _≤_}
+-- from it, are the laws `charge-cost`, `charge-products` and `charge-literals` of proofs/Costs. With document 02's inverters (W-205) a term has a price.
+use Prim.Native.Nat.{ℕ, zero, suc, _+_, _-_, _*_, _/_, _%_, _≤_}
 use mathlib.Core.Path.{_≡_}
 use Rattle.expansions.specs.declared.families.Family.{Family}
 use Rattle.expansions.specs.declared.families.Family.the-variants.{One, Two}
+use Rattle.expansions.specs.Costs.{counted}
 
 -- ---- in words
 
@@ -42,3 +43,12 @@ weight R l = R .product + l * R .literal
 abbrev pub ruleOf : Family → Rule
 ruleOf One = record { product = 4096; literal = 1; productsIn = λ x. x / 4096; literalsIn = λ x. x % 4096 }
 ruleOf Two = record { product = 4 * 512 + 1; literal = 512; productsIn = λ x. x % 512; literalsIn = λ x. x / 512 - 4 * (x % 512) }
+
+-- ---- with inverters
+
+-- What a term of l literals with the coefficient c is charged by a rule, where every output has an inverter: "Output inverters are free", and equal
+-- costs "go to the least mask". The term without literals is the constant 1; its coefficient is the inversion mask, and counts as the number that it
+-- is. Every other product is charged 256 times its weight, so that no mask outweighs it
+unfoldable pub price : Rule → (l c : ℕ) → ℕ
+price R zero c = c
+price R (suc l) c = counted c (weight R (suc l)) * 256
