@@ -34,10 +34,11 @@ transformNumbers (Refused number line) = number ∷ line ∷ []
 abbrev pub decidedMinimum : ℕ → ℕ → ℕ → List ℕ → ℕ → ℕ → Minimised
 decidedMinimum n m k table coefficients blocks = minimising.minimised (minimising.minimiseRefusal n m k table coefficients blocks) (answerExpansion One n k (at table))
 
--- "returns M, i, products and literals", after the number and the line, all 0 under a refusal
+-- "returns M, i, products and literals", after the number and the line, and last the inversion mask, "which the binary call returns too"; all 0 under a
+-- refusal
 unfoldable pub minimumNumbers : Minimised → List ℕ
-minimumNumbers (minimised.Found M i products literals) = 0 ∷ 0 ∷ M ∷ i ∷ products ∷ literals ∷ []
-minimumNumbers (minimised.Refused number line) = number ∷ line ∷ 0 ∷ 0 ∷ 0 ∷ 0 ∷ []
+minimumNumbers (minimised.Found M i products literals inverted) = 0 ∷ 0 ∷ M ∷ i ∷ products ∷ literals ∷ inverted ∷ []
+minimumNumbers (minimised.Refused number line) = number ∷ line ∷ 0 ∷ 0 ∷ 0 ∷ 0 ∷ 0 ∷ []
 
 -- k and "the kind of k": 1 where k is a number, and 2 with k = 0 for `K`
 abbrev pub kindNumbers : Kind → List ℕ

@@ -1,4 +1,4 @@
-// The minimising call. The answer is six numbers: the refusal's number and its line, M, i, products and literals.
+// The minimising call. The answer is seven numbers: the refusal's number and its line, M, i, products, literals and the inversion mask.
 ghost use mathlib.Core.Path.{_≡_};
 ghost use lib.ListN.{length};
 ghost use Rattle.search.specs.Calls.{Minimise};
@@ -6,7 +6,7 @@ ghost use Rattle.capi.specs.Answers.{decidedMinimum, minimumNumbers};
 use search::calls::Minimised;
 
 // The numbers that stand for the minimising call's answer.
-fn minimum_numbers(r: Minimised) -> [u64; 6]
+fn minimum_numbers(r: Minimised) -> [u64; 7]
     ensures { λ a. ⌜ a ≡ minimumNumbers r ⌝ }
 {
     match r {
@@ -15,6 +15,7 @@ fn minimum_numbers(r: Minimised) -> [u64; 6]
             fixed,
             products,
             literals,
+            inverted,
         } => [
             0,
             0,
@@ -22,8 +23,9 @@ fn minimum_numbers(r: Minimised) -> [u64; 6]
             fixed as u64,
             products as u64,
             literals as u64,
+            inverted as u64,
         ],
-        Minimised::Refused { number, line } => [number as u64, line as u64, 0, 0, 0, 0],
+        Minimised::Refused { number, line } => [number as u64, line as u64, 0, 0, 0, 0, 0],
     }
 }
 
@@ -37,7 +39,7 @@ pub extern "C" fn mipaldoz_minimise(
     table: &[u8],
     coefficients: &mut [u8],
     blocks: &mut [u8],
-    answer: &mut [u64; 6],
+    answer: &mut [u64; 7],
 )
     ensures bytes { λ _. ⌜ Minimise n m k (now (table .entry)) (now (coefficients .entry)) (now (coefficients .exit)) (now (blocks .entry)) (now (blocks .exit))
         (decidedMinimum n m k (now (table .entry)) (length (now (coefficients .entry))) (length (now (blocks .entry)))) ⌝ }

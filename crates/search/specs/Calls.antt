@@ -24,19 +24,19 @@ minimiseRefusal n m k table coefficients blocks =
     (unless (allBelow (2 ^ m) table) 9 0))
 
 -- the answer that stands for a refusal's number: "0 .. for calls without text" is the line; with no refusal the call "returns M, i,
--- products and literals"
+-- products and literals", and the inversion mask, "which the binary call returns too"
 unfoldable pub minimised : ℕ → Expansion → Minimised
-minimised zero e = Found (e .mixed) (e .fixed) (e .products) (e .literals)
+minimised zero e = Found (e .mixed) (e .fixed) (e .products) (e .literals) (e .inverted)
 minimised (suc x) e = Refused (suc x) 0
 
 -- "The binary minimising call takes n, m, k and a table. It fills 2^n coefficient bytes and 2^(n−k) block bytes, and returns M, i, products
--- and literals." Document 02, W-203: "the binary call keeps to family one". The two buffers hold c and b when it is called, and c′ and b′ when it
+-- and literals." Document 02, W-203: "the binary call keeps to family one"; W-205: it returns the inversion mask too. The two buffers hold c and b when it is called, and c′ and b′ when it
 -- returns.
 pub record Minimise (n m k : ℕ) (table c c′ b b′ : List ℕ) (r : Minimised) : Type 0 where
   pub answer : r ≡ minimised (minimiseRefusal n m k table (length c) (length b)) (answerExpansion One n k (at table))
   pub coefficients : c′ ≡ unlessRefused (minimiseRefusal n m k table (length c) (length b)) (tabulate (2 ^ n) (answerCoefficient One n k (at table))) c
   pub blocks : b′ ≡ unlessRefused (minimiseRefusal n m k table (length c) (length b)) (tabulate (2 ^ (n - k)) (answerPolarity One n k (at table))) b
   -- the returned numbers and the bytes now in the buffers are a member that gives the table at every point, and no member comes before it
-  pub meaning : (M i p l : ℕ) → r ≡ Found M i p l → Minimal One n k (at table) M i (at b′) (at c′) p l
-  -- "bits m to 7 zero"
-  pub outputs : (M i p l : ℕ) → r ≡ Found M i p l → (t : ℕ) → t < 2 ^ n → at c′ t < 2 ^ m
+  pub meaning : (M i p l v : ℕ) → r ≡ Found M i p l v → Minimal One n k (at table) v M i (at b′) (at c′) p l
+  -- "bits m to 7 zero", of the mask too
+  pub outputs : (M i p l v : ℕ) → r ≡ Found M i p l v → (v < 2 ^ m) × ((t : ℕ) → t < 2 ^ n → at c′ t < 2 ^ m)

@@ -9,10 +9,11 @@ use Rattle.numbers.specs.Refusals.{sizesRefusal}
 use Rattle.expansions.specs.declared.families.Family.{Family}
 use Rattle.expansions.specs.Members.{polarity}
 use Rattle.expansions.specs.Costs.{products, literals}
-use Rattle.expansions.specs.Answers.{answerMixed, answerFixed, answerPolarity, answerCoefficient}
+use Rattle.expansions.specs.Answers.{answerInverted, answerMixed, answerFixed, answerPolarity, answerCoefficient}
 use Rattle.search.specs.declared.expansion.Expansion.{Expansion}
 
--- "the search hands up an expansion record that holds the 256 coefficient places, zero from 2^n on", and as many block places
+-- "the search hands up an expansion record that holds the 256 coefficient places, zero from 2^n on", and as many block places. Document 02, W-205: "The
+-- expansion record gains an inversion mask (bit o for output o)"
 unfoldable pub answerExpansion : Family → ℕ → ℕ → (ℕ → ℕ) → Expansion
 answerExpansion F n k f =
     record {
@@ -22,9 +23,10 @@ answerExpansion F n k f =
       fixed = answerFixed F n k f;
       products = products n (answerCoefficient F n k f);
       literals = literals n (answerCoefficient F n k f);
+      inverted = answerInverted F n k f;
     }
 
--- "All zero: M = 2^k − 1, i = 0, 0 products", with no more than the eight inputs in M
+-- "All zero: M = 2^k − 1, i = 0, 0 products", with no more than the eight inputs in M, and no output inverted
 unfoldable pub emptyExpansion : ℕ → Expansion
 emptyExpansion k =
     record {
@@ -34,6 +36,7 @@ emptyExpansion k =
       fixed = 0;
       products = 0;
       literals = 0;
+      inverted = 0;
     }
 
 -- n, m and k are none that document 01 refuses, and the bytes are a table of n inputs and m outputs

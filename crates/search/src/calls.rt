@@ -11,14 +11,15 @@ use expansions::families::Family;
 use numbers::refusals::judge_sizes;
 use numbers::refusals::within_outputs;
 
-// The answer of the minimising call: the mixed set M, the fixed polarity i and the counts of the member that it found, or declined with
-// document 01's number and line.
+// The answer of the minimising call: the mixed set M, the fixed polarity i, the counts and the inversion mask of the member that it found, or declined
+// with document 01's number and line.
 pub enum Minimised {
     Found {
         mixed: usize,
         fixed: usize,
         products: usize,
         literals: usize,
+        inverted: u8,
     },
     Refused {
         number: usize,
@@ -68,8 +69,8 @@ fn copy_places(places: &[u8; Expansion::PLACES], lent: &mut [u8])
 }
 
 // Takes n, m, k and a table of 2^n bytes, and finds the first least member, as family one compares, that gives the table. It fills
-// `coefficients`, 2^n bytes, and `blocks`, 2^(n−k) bytes, and returns M, i, products and literals. Refuses n or m outside 1 to 8, k above 3
-// or above n, another length of a buffer, and a byte with a bit at m or above.
+// `coefficients`, 2^n bytes, and `blocks`, 2^(n−k) bytes, and returns M, i, products, literals and the inversion mask. Refuses n or m outside 1 to 8, k
+// above 3 or above n, another length of a buffer, and a byte with a bit at m or above.
 pub fn minimise(
     n: usize,
     m: usize,
@@ -94,5 +95,6 @@ pub fn minimise(
         fixed: found.fixed,
         products: found.products,
         literals: found.literals,
+        inverted: found.inverted,
     }
 }

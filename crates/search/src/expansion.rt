@@ -5,7 +5,7 @@ ghost use Prim.Native.Nat.{_-_, _^_, min};
 ghost use Rattle.search.specs.Expansion.{emptyExpansion};
 
 // A member of the class and what it costs: the coefficient of each term, the polarity of each block, the mixed set M and the fixed
-// polarity i as masks, and the counts of products and literals.
+// polarity i as masks, the counts of products and literals, and the outputs that are inverted, bit o for output o.
 pub struct Expansion {
     pub coefficients: [u8; Expansion::PLACES],
     pub blocks: [u8; Expansion::PLACES],
@@ -13,6 +13,7 @@ pub struct Expansion {
     pub fixed: usize,
     pub products: usize,
     pub literals: usize,
+    pub inverted: u8,
 }
 
 impl Expansion {
@@ -28,7 +29,7 @@ impl Expansion {
     // The coefficient places, one for each term of as many inputs as there can be; there are as many for the block polarities.
     pub const PLACES: usize = 1 << Expansion::MOST_INPUTS;
 
-    // The expansion with no product, whose mixed set is the k lowest inputs. A k above 8 is read as 8, so that the set stays
+    // The expansion with no product and no output inverted, whose mixed set is the k lowest inputs. A k above 8 is read as 8, so that the set stays
     // within the eight inputs; nothing is refused.
     pub fn empty(k: usize) -> Expansion
         ensures { λ r. ⌜ r ≡ emptyExpansion k ⌝ }
@@ -41,6 +42,7 @@ impl Expansion {
             fixed: 0,
             products: 0,
             literals: 0,
+            inverted: 0,
         }
     }
 }

@@ -1,4 +1,4 @@
-// The expansion record of the pair that was found: the first least polarity of each block, and the coefficients under them.
+// The expansion record of the pair that was found: the first least polarity of each block, the coefficients under them, and the inversion mask.
 ghost use mathlib.Core.Path.{_≡_};
 ghost use Prim.Native.Nat.{_-_, _*_, _^_};
 ghost use lib.ListN.{length};
@@ -10,7 +10,8 @@ ghost use Rattle.search.specs.inner.Search.{Given, polarityAt, Leads};
 use crate::expansion::Expansion;
 use crate::pairs::Leader;
 use expansions::families::counts_in;
-use lanes::charges::cheapest_block;
+use lanes::charges::cheapest_first;
+use lanes::charges::cheapest_other;
 use lanes::expand::expand_blocks;
 use lanes::sizes::Pair;
 use lanes::sizes::Sizes;
@@ -27,7 +28,11 @@ fn polarity_at(rows: &[u64; 256], sizes: Sizes, lanes: &[u8], j: usize) -> u8
     if count <= j {
         return 0;
     }
-    let least = cheapest_block(rows, sizes, lanes, j);
+    if j == 0 {
+        let first = cheapest_first(rows, sizes, lanes);
+        return first.polarity;
+    }
+    let least = cheapest_other(rows, sizes, lanes, j);
     least.polarity
 }
 
@@ -47,7 +52,8 @@ fn polarities(rows: &[u64; 256], sizes: Sizes, lanes: &[u8]) -> [u8; Expansion::
     all
 }
 
-// The record of the leader of all the pairs, which begins as the empty record.
+// The record of the leader of all the pairs, which begins as the empty record. The coefficient of the constant becomes the inversion mask; what the
+// leader costs stands above the mask in its charge.
 pub fn expansion_of(rows: &[u64; 256], sizes: Sizes, table: &[u8], leader: Leader) -> Expansion
     requires { ⌜ now rows ≡ blockRows ⌝ }
     requires { ⌜ Limits sizes ⌝ }
@@ -62,9 +68,11 @@ pub fn expansion_of(rows: &[u64; 256], sizes: Sizes, table: &[u8], leader: Leade
     let room: usize = 8 << (sizes.n - sizes.k);
     expand_blocks(sizes, Pair { mixed, fixed }, table, &mut lanes[..room]);
     let chosen = polarities(rows, sizes, &lanes[..room]);
-    let filled = coefficients(rows, sizes, mixed, &lanes[..room], &chosen);
+    let mut filled = coefficients(rows, sizes, mixed, &lanes[..room], &chosen);
+    let inverted = filled[0];
+    filled[0] = 0;
     let family = sizes.family;
-    let counts = counts_in(family, leader.charge);
+    let counts = counts_in(family, leader.charge >> 8);
     let mut found = Expansion::empty(sizes.k);
     found.coefficients = filled;
     found.blocks = chosen;
@@ -72,5 +80,6 @@ pub fn expansion_of(rows: &[u64; 256], sizes: Sizes, table: &[u8], leader: Leade
     found.fixed = fixed;
     found.products = counts.products;
     found.literals = counts.literals;
+    found.inverted = inverted;
     found
 }

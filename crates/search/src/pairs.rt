@@ -10,7 +10,8 @@ ghost use Rattle.expansions.specs.Answers.{pairCharge};
 ghost use Rattle.lanes.specs.inner.Sizes.{Limits, MixedSet};
 ghost use Rattle.lanes.specs.inner.Charges.{chargeFrom};
 ghost use Rattle.search.specs.inner.Search.{Given, pairOf, ledBy, Leads};
-use lanes::charges::cheapest_block;
+use lanes::charges::cheapest_first;
+use lanes::charges::cheapest_other;
 use lanes::expand::expand_blocks;
 use lanes::expand::next_polarity;
 use lanes::sizes::Pair;
@@ -33,10 +34,11 @@ fn pair_charge(rows: &[u64; 256], sizes: Sizes, lanes: &[u8]) -> u32
     ensures { λ c. ⌜ c ≡ pairCharge (sizes .n) (sizes .k) (chargeFrom (sizes .family) (at (now (lanes .entry)))) ⌝ }
 {
     let count: usize = 1 << (sizes.n - sizes.k);
-    let mut sum: u32 = 0;
-    let mut j: usize = 0;
+    let first = cheapest_first(rows, sizes, lanes);
+    let mut sum = first.charge;
+    let mut j: usize = 1;
     while j < count {
-        let least = cheapest_block(rows, sizes, lanes, j);
+        let least = cheapest_other(rows, sizes, lanes, j);
         sum += least.charge;
         j += 1;
     }

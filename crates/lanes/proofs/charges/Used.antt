@@ -2,7 +2,7 @@
 -- the mixed set (`literals-outside`), and the bound of what a block costs (`chargeFrom-le`).
 use mathlib.Core.Path.{_≡_, sym, ap, ap₂, _∙_}
 use mathlib.Core.List.{List}
-use Prim.Native.Nat.{ℕ, _+_, _*_, _/_, _%_, _^_, _≤_, _<_}
+use Prim.Native.Nat.{ℕ, zero, suc, _+_, _*_, _/_, _%_, _^_, _≤_, _<_}
 use native.Mathlib.Numerals.{add-one}
 use native.Mathlib.Omega.{arith}
 use lib.Bits.{bitAnd, bitOr, and-mask, mask-lt}
@@ -11,15 +11,18 @@ use Rattle.numbers.specs.Bytes.{at}
 use Rattle.numbers.specs.Sums.{foldBelow}
 use Rattle.numbers.specs.Words.{word}
 use Rattle.numbers.proofs.Bytes.{at-tabulate}
+use Rattle.numbers.proofs.Bits.{bit-lt}
+use Rattle.numbers.proofs.Pack.{pack-lt}
 use Rattle.numbers.proofs.Words.{word-zero, word-or}
 use Rattle.expansions.specs.BlockTable.{entry, row, blockRows}
 use Rattle.expansions.specs.declared.families.Family.{Family}
 use Rattle.expansions.specs.Rules.{ruleOf}
-use Rattle.expansions.specs.inner.Charges.{literalCount}
-use Rattle.expansions.proofs.Rules.{weight-small}
+use Rattle.expansions.specs.inner.Charges.{literalCount, chargedTerms, constantIn}
+use Rattle.expansions.proofs.Rules.{weight-eleven}
 use Rattle.expansions.proofs.BlockTable.{entry-lt, entries-lt}
 use Rattle.expansions.proofs.Charges.{literalCount-ones, literalCount-le, usedCharge-le}
 use Rattle.lanes.specs.inner.Charges.{usedAt, chargeFrom}
+use Rattle.lanes.specs.inner.Terms.{coefficientIn}
 
 -- the terms that some output below o has in block j
 abbrev pub usedBelow : (ℕ → ℕ) → (j o φ : ℕ) → ℕ
@@ -47,13 +50,30 @@ pub usedAt-lt : (lanes : ℕ → ℕ) (j φ : ℕ) → φ < 8 → usedAt lanes j
 unfolding usedAt
 usedAt-lt lanes j φ h = entries-lt 8 φ (λ o. lanes (j * 8 + o)) h
 
--- the most that a block costs in either family: eight products, each with at most three literals in the block and eight outside it
+-- ---- the terms that are charged, and the constant
+
+chargedTerms-lt : (j u : ℕ) → u < 2 ^ 8 → chargedTerms j u < 2 ^ 8
+unfolding chargedTerms
+chargedTerms-lt zero u h = omega arith
+chargedTerms-lt (suc j) u h = h
+
+constantIn-le : (j x : ℕ) → constantIn j x ≤ x
+unfolding constantIn
+constantIn-le zero x = omega arith
+constantIn-le (suc j) x = omega arith
+
+pub coefficientIn-lt : (lanes : ℕ → ℕ) (j s φ : ℕ) → coefficientIn lanes j s φ < 256
+unfolding coefficientIn
+coefficientIn-lt lanes j s φ = pack-lt 8 _ (λ o l. bit-lt s _)
+
+-- the most that a block costs in either family: eight products, each with at most three literals in the block and eight outside it, 256 times, and a mask
 abbrev pub mostCharge : ℕ
-mostCharge = 8 * (4096 + 11 * 512)
+mostCharge = 8 * 7681 * 256 + 255
 
 pub chargeFrom-le : (F : Family) (lanes : ℕ → ℕ) (j φ : ℕ) → j < 256 → φ < 8 → chargeFrom F lanes j φ ≤ mostCharge
 chargeFrom-le F lanes j φ hj h =
-    omega (arith, usedCharge-le (ruleOf F) (ones j) (usedAt lanes j φ) (ones-le 8 j hj) (usedAt-lt lanes j φ h), weight-small F 11)
+    let terms = usedCharge-le (ruleOf F) (ones j) (chargedTerms j (usedAt lanes j φ)) (ones-le 8 j hj) (chargedTerms-lt j (usedAt lanes j φ) (usedAt-lt lanes j φ h)) in
+    omega (arith, terms, weight-eleven F, constantIn-le j (coefficientIn lanes j 0 φ), coefficientIn-lt lanes j 0 φ)
 
 -- ---- literals outside the mixed set
 

@@ -1,6 +1,6 @@
 -- What a small sum stands for, as code computes it from the two weights of a family's rule: it is the charge (`weighed-is`), and it and its parts are
--- small (`outside-le`, `product-le`, `products-le`, `weighed-le`).
-use mathlib.Core.Path.{_≡_}
+-- small (`outside-le`, `product-le`, `products-le`, `weighed-le`, `sumCharge-most`).
+use mathlib.Core.Path.{_≡_, refl}
 use Prim.Native.Nat.{ℕ, _+_, _*_, _/_, _≤_, _<_}
 use native.Mathlib.Nat.{mul-le-mul}
 use native.Mathlib.Omega.{arith}
@@ -33,3 +33,8 @@ module _ (F : Family) (more sum product literal : ℕ) (ep : product ≡ ruleOf 
         let few : bitAnd sum 15 ≤ 15 = omega (arith, mask-lt sum 4) in
         let small : literal ≤ 512 = omega (arith, el, rule-small F) in
         omega (arith, products-le, mul-le-mul few small)
+
+-- so the charge that a sum stands for is small
+pub sumCharge-most : (F : Family) (more sum : ℕ) → more ≤ 8 → sum < 256 → sumCharge (ruleOf F) more sum ≤ 15 * 8192 + 15 * 512
+sumCharge-most F more sum hm hs =
+    rw (← weighed-is F more sum (ruleOf F .product) (ruleOf F .literal) refl refl) (weighed-le F more sum (ruleOf F .product) (ruleOf F .literal) refl refl hm hs)

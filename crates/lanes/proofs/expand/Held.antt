@@ -7,22 +7,27 @@ use native.Mathlib.Omega.{arith}
 use lib.Arith.{digits-div, digits-mod}
 use lib.Bits.{bitOr}
 use lib.Count.{onesIn, ones}
+use lib.Pow.{pow-pos}
+use Rattle.numbers.specs.Bits.{bit}
 use Rattle.numbers.specs.Bytes.{at}
 use Rattle.numbers.proofs.Bytes.{at-tabulate}
+use Rattle.numbers.proofs.Pack.{pack-ext}
 use Rattle.numbers.proofs.Sums.{fold-ext}
 use Rattle.algebra.specs.Coefficients.{coefficient}
 use Rattle.expansions.specs.Answers.{blockFunction, blockCharge, leastPolarity, pairCharge}
 use Rattle.expansions.specs.BlockTable.{entry}
 use Rattle.expansions.specs.Rules.{ruleOf}
 use Rattle.expansions.specs.Split.{gather, outside, join}
-use Rattle.expansions.specs.inner.Charges.{usedCharge}
+use Rattle.expansions.specs.inner.Charges.{usedCharge, chargedTerms, constantIn}
 use Rattle.expansions.specs.inner.Planes.{plane}
-use Rattle.expansions.proofs.BlockTable.{used, plane-coefficient, blockCharge-byte, pairCharge-small}
+use Rattle.expansions.proofs.BlockTable.{used, plane-coefficient, entry-outputs, blockCharge-byte, pairCharge-small}
+use Rattle.expansions.proofs.Blocks.{blockFunction-lt}
 use Rattle.expansions.proofs.Minimal.{leastPolarity-ext, pairCharge-ext}
 use Rattle.expansions.proofs.Split.{ones-others, gather-lt}
 use Rattle.lanes.specs.inner.Lanes.{placesByte, lanesUnder, blockLanes}
 use Rattle.lanes.specs.inner.Sizes.{Limits, MixedSet}
 use Rattle.lanes.specs.inner.Charges.{usedAt, chargeFrom}
+use Rattle.lanes.specs.inner.Terms.{coefficientIn}
 use Rattle.lanes.specs.declared.sizes.Sizes.{Sizes}
 
 -- byte q * 8 + o of functions side by side is the function o, at q
@@ -51,10 +56,18 @@ module _ (s : Sizes) (M i : ℕ) (f : ℕ → ℕ) (lanes : List ℕ) (limits : 
   unfolding usedAt used
   held-used j φ h = fold-ext bitOr 8 _ _ (λ o l. ap (λ (g : ℕ). entry g φ) (held-plane o j l h))
 
+  pub held-coefficient : (j r φ : ℕ) → j < 2 ^ (s .n - s .k) → r < 2 ^ s .k → φ < 2 ^ s .k
+      → coefficientIn (at lanes) j r φ ≡ coefficient (s .k) φ (blockFunction (s .n) (s .k) f M i j) r
+  unfolding coefficientIn
+  held-coefficient j r φ hj hr hφ =
+      pack-ext 8 _ _ (λ o l. ap (λ (g : ℕ). bit r (entry g φ)) (held-plane o j l hj))
+      ∙ entry-outputs 8 (s .k) φ (blockFunction (s .n) (s .k) f M i j) (limits .mixed) hφ
+      (λ p l. blockFunction-lt 8 (s .n) (s .k) M i f outputs (set .size) j p) r hr
+
   pub held-charge : (j φ : ℕ) → j < 2 ^ (s .n - s .k) → φ < 2 ^ s .k → chargeFrom (s .family) (at lanes) j φ ≡ blockCharge (ruleOf (s .family)) (s .n) (s .k) f M i j φ
-  unfolding usedCharge
   held-charge j φ hj hφ =
-      ap (usedCharge (ruleOf (s .family)) (ones j)) (held-used j φ hj) ∙ sym (blockCharge-byte (ruleOf (s .family)) 8 (s .n) (s .k) f M i j φ (limits .mixed) hφ (set .size) outputs)
+      ap₂ (λ (u v : ℕ). usedCharge (ruleOf (s .family)) (ones j) (chargedTerms j u) * 256 + constantIn j v) (held-used j φ hj) (held-coefficient j 0 φ hj (pow-pos (s .k)) hφ)
+      ∙ sym (blockCharge-byte (ruleOf (s .family)) 8 (s .n) (s .k) f M i j φ (limits .mixed) hφ (set .size) outputs)
 
   pub held-polarity : (j : ℕ) → j < 2 ^ (s .n - s .k) → leastPolarity (s .k) (chargeFrom (s .family) (at lanes) j) ≡ leastPolarity (s .k) (blockCharge (ruleOf (s .family)) (s .n) (s .k) f M i j)
   held-polarity j h = leastPolarity-ext (s .k) _ (blockCharge (ruleOf (s .family)) (s .n) (s .k) f M i j) (λ φ l. held-charge j φ h l)
@@ -63,5 +76,6 @@ module _ (s : Sizes) (M i : ℕ) (f : ℕ → ℕ) (lanes : List ℕ) (limits : 
   held-pair = pairCharge-ext (s .n) (s .k) _ (blockCharge (ruleOf (s .family)) (s .n) (s .k) f M i) held-charge
 
 -- a pair costs less than the charge that stands for no pair, 2 ^ 32 - 1
-pub pairCharge-lt : (s : Sizes) (f : ℕ → ℕ) (M i : ℕ) → Limits s → pairCharge (s .n) (s .k) (blockCharge (ruleOf (s .family)) (s .n) (s .k) f M i) < 2 ^ 31
-pairCharge-lt s f M i limits = pairCharge-small (s .family) (s .n) (s .k) f M i (limits .inputs) (limits .mixed) (limits .within)
+pub pairCharge-lt : (s : Sizes) (f : ℕ → ℕ) (M i : ℕ) → Limits s → MixedSet s M → ((p : ℕ) → p < 2 ^ s .n → f p < 2 ^ 8)
+    → pairCharge (s .n) (s .k) (blockCharge (ruleOf (s .family)) (s .n) (s .k) f M i) < 2 ^ 31
+pairCharge-lt s f M i limits set outputs = pairCharge-small (s .family) (s .n) (s .k) f M i (limits .inputs) (limits .within) (set .size) outputs

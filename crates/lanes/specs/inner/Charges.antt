@@ -10,7 +10,8 @@ use Rattle.expansions.specs.Answers.{leastPolarity}
 use Rattle.expansions.specs.BlockTable.{entry}
 use Rattle.expansions.specs.declared.families.Family.{Family}
 use Rattle.expansions.specs.Rules.{ruleOf}
-use Rattle.expansions.specs.inner.Charges.{usedCharge}
+use Rattle.expansions.specs.inner.Charges.{usedCharge, chargedTerms, constantIn}
+use Rattle.lanes.specs.inner.Terms.{coefficientIn}
 use Rattle.lanes.specs.declared.charges.LeastSum.{LeastSum}
 use Rattle.lanes.specs.declared.charges.Cheapest.{Cheapest}
 
@@ -18,14 +19,15 @@ use Rattle.lanes.specs.declared.charges.Cheapest.{Cheapest}
 unfoldable pub usedAt : (ℕ → ℕ) → ℕ → ℕ → ℕ
 usedAt lanes j φ = foldBelow bitOr 8 (λ o. entry (lanes (j * 8 + o)) φ)
 
--- what block j costs under φ by a family's rule, from the block functions
+-- what block j costs under φ by a family's rule, from the block functions: 256 times the charge of its terms but the constant, and in block 0 the
+-- coefficient of the constant
 abbrev pub chargeFrom : Family → (ℕ → ℕ) → ℕ → ℕ → ℕ
-chargeFrom F lanes j φ = usedCharge (ruleOf F) (ones j) (usedAt lanes j φ)
+chargeFrom F lanes j φ = usedCharge (ruleOf F) (ones j) (chargedTerms j (usedAt lanes j φ)) * 256 + constantIn j (coefficientIn lanes j 0 φ)
 
--- the first of the least of the first 2 ^ k bytes of a word
-pub record IsLeastSum (k sums : ℕ) (r : LeastSum) : Type 0 where
-  pub polarity : r .polarity ≡ leastPolarity k (λ φ. byte φ sums)
-  pub sum : r .sum ≡ byte (leastPolarity k (λ φ. byte φ sums)) sums
+-- the first of the least of 2 ^ k numbers
+pub record IsLeastSum (k : ℕ) (sums : ℕ → ℕ) (r : LeastSum) : Type 0 where
+  pub polarity : r .polarity ≡ leastPolarity k sums
+  pub sum : r .sum ≡ sums (leastPolarity k sums)
 
 -- the first least polarity of a block, and what the block costs under it
 pub record IsCheapest (k : ℕ) (cost : ℕ → ℕ) (r : Cheapest) : Type 0 where

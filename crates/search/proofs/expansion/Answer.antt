@@ -11,12 +11,12 @@ use Rattle.expansions.specs.Answers.{answerPolarity, answerCoefficient, Minimal
 use Rattle.search.specs.Expansion.{answerExpansion}
 use Rattle.numbers.proofs.Tables.{at-whole}
 use Rattle.expansions.proofs.Costs.{products-le, literals-le}
-use Rattle.expansions.proofs.Answers.{answer-coefficient-zero, answer-polarity-zero, answer-member, answer-minimal, answer-ext, answer-coefficient-lt, answer-polarity-lt}
+use Rattle.expansions.proofs.Answers.{answer-coefficient-zero, answer-polarity-zero, answer-member, answer-minimal, answer-ext, answer-inverted-lt, answer-coefficient-lt, answer-polarity-lt}
 use Rattle.search.specs.declared.expansion.Expansion.{Expansion}
 
 -- the record holds the family's answer for the table f: "the member that gives the table with fewest products, .."
 abbrev pub Answered : Family → ℕ → ℕ → (ℕ → ℕ) → Expansion → Type 0
-Answered F n k f e = Minimal F n k f (e .mixed) (e .fixed) (at (e .blocks)) (at (e .coefficients)) (e .products) (e .literals)
+Answered F n k f e = Minimal F n k f (e .inverted) (e .mixed) (e .fixed) (at (e .blocks)) (at (e .coefficients)) (e .products) (e .literals)
 
 -- ---- the answer's places, in a table that holds all that are not 0
 
@@ -48,6 +48,10 @@ module _ (F : Family) (n k : ℕ) (f : ℕ → ℕ) (hn : n ≤ 8) where
   pub expansion-coefficients-lt : (m : ℕ) → k ≤ n → ((p : ℕ) → p < 2 ^ n → f p < 2 ^ m) → (t : ℕ) → at (answerExpansion F n k f .coefficients) t < 2 ^ m
   expansion-coefficients-lt m hk outputs t = rw (expansion-coefficients t) (answer-coefficient-lt F n k f hk m outputs t)
 
+  pub expansion-inverted-lt : (m : ℕ) → k ≤ n → ((p : ℕ) → p < 2 ^ n → f p < 2 ^ m) → answerExpansion F n k f .inverted < 2 ^ m
+  unfolding answerExpansion
+  expansion-inverted-lt m hk outputs = answer-inverted-lt F n k f hk m outputs
+
   pub expansion-blocks-lt : k ≤ n → (j : ℕ) → at (answerExpansion F n k f .blocks) j < 2 ^ k
   expansion-blocks-lt hk j = rw (expansion-blocks j) (answer-polarity-lt F n k f hk j)
 
@@ -69,11 +73,11 @@ module _ (F : Family) (n k : ℕ) (f : ℕ → ℕ) (hn : n ≤ 8) where
 
   -- ---- it is the answer
 
-  pub answerExpansion-is : k ≤ n → Answered F n k f (answerExpansion F n k f)
+  pub answerExpansion-is : k ≤ n → ((p : ℕ) → p < 2 ^ n → f p < 2 ^ 8) → Answered F n k f (answerExpansion F n k f)
   unfolding answerExpansion
-  answerExpansion-is hk = rw (expansion-coefficients-whole, expansion-blocks-whole) (answer-minimal F n k f hn hk)
+  answerExpansion-is hk bytes = rw (expansion-coefficients-whole, expansion-blocks-whole) (answer-minimal F n k f hn hk bytes)
 
 -- only the table's values at the points count
 pub answerExpansion-ext : (F : Family) (n k : ℕ) (f g : ℕ → ℕ) → ((p : ℕ) → p < 2 ^ n → f p ≡ g p) → answerExpansion F n k f ≡ answerExpansion F n k g
 unfolding answerExpansion
-answerExpansion-ext F n k f g e = let a = answer-ext F n k f g e in rw (a .0, a .1, fun-ext (a .2), fun-ext (a .3))
+answerExpansion-ext F n k f g e = let a = answer-ext F n k f g e in rw (a .0, a .1, a .2, fun-ext (a .3), fun-ext (a .4))

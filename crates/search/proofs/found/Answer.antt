@@ -1,11 +1,14 @@
 -- The record that code makes of the leader of all the pairs is the answer's (`record-answer`). Its M and i are the leader's, its counts come
--- from the leader's charge, and its places from the block functions of M and i.
-use mathlib.Core.Path.{_≡_, _∙_}
+-- from the leader's charge, its places from the block functions of M and i, and its mask from the place of the constant.
+use mathlib.Core.Path.{_≡_, ap, _∙_}
 use mathlib.Core.List.{List}
 use Prim.Native.Nat.{ℕ, _-_, _*_, _/_, _%_, _^_, _<_}
+use native.Mathlib.Omega.{arith}
 use lib.Bits.{bitAnd}
+use lib.ListN.{set}
 use Rattle.numbers.specs.Bytes.{at, tabulate}
-use Rattle.expansions.specs.Answers.{answerMixed, answerFixed, answerCoefficient}
+use Rattle.numbers.proofs.Bytes.{at-tabulate}
+use Rattle.expansions.specs.Answers.{answerInverted, answerMixed, answerFixed, answerCoefficient, expandedCoefficient}
 use Rattle.expansions.specs.Rules.{ruleOf}
 use Rattle.expansions.specs.Split.{gather, outside}
 use Rattle.search.specs.Expansion.{answerExpansion}
@@ -16,7 +19,7 @@ use Rattle.search.specs.inner.Search.{Given, Leads, polarityAt}
 use Rattle.search.specs.declared.expansion.Expansion.{Expansion}
 use Rattle.search.specs.declared.pairs.Leader.{Leader}
 use Rattle.lanes.specs.declared.sizes.Sizes.{Sizes}
-use Rattle.search.proofs.found.Places.{polarities-answer, chosen-lt, coefficients-answer}
+use Rattle.search.proofs.found.Places.{polarities-answer, chosen-lt, coefficients-expanded, without-first}
 use Rattle.search.proofs.found.Leader.{leader-mixed, leader-fixed, leader-products, leader-literals}
 
 -- the leader's M and i, as code takes them from its pair
@@ -48,27 +51,39 @@ module _ (s : Sizes) (table : List ℕ) (leader : Leader) (lanes blocks : List �
   blocks-lt j = rw found (chosen-lt s (at table) lanes limits outputs held-answer j)
 
   module _ (coefficients : List ℕ) (filled : coefficients ≡ tabulate 256 (coefficientAt (s .n) (leaderMixed (s .n) leader) (at lanes) (at blocks))) where
-    filled-answer : coefficients ≡ tabulate 256 (answerCoefficient (s .family) (s .n) (s .k) (at table))
-    filled-answer = filled ∙ rw (mixed, found) (coefficients-answer s (at table) lanes limits outputs held-answer)
+    filled-expanded : coefficients ≡ tabulate 256 (expandedCoefficient (s .family) (s .n) (s .k) (at table))
+    filled-expanded = filled ∙ rw (mixed, found) (coefficients-expanded s (at table) lanes limits outputs held-answer)
 
-    pub record-answer : (products literals : ℕ) → (products ≡ ruleOf (s .family) .productsIn (leader .charge)) × (literals ≡ ruleOf (s .family) .literalsIn (leader .charge))
+    -- the constant becomes the mask
+    mask : at coefficients 0 ≡ answerInverted (s .family) (s .n) (s .k) (at table)
+    unfolding answerInverted
+    mask = ap (λ (xs : List ℕ). at xs 0) filled-expanded ∙ at-tabulate 256 (expandedCoefficient (s .family) (s .n) (s .k) (at table)) 0 (omega arith)
+
+    others : set coefficients 0 0 ≡ tabulate 256 (answerCoefficient (s .family) (s .n) (s .k) (at table))
+    unfolding answerCoefficient
+    others = ap (λ (xs : List ℕ). set xs 0 0) filled-expanded ∙ without-first (expandedCoefficient (s .family) (s .n) (s .k) (at table))
+
+    pub record-answer : (products literals : ℕ)
+        → (products ≡ ruleOf (s .family) .productsIn (leader .charge / 256)) × (literals ≡ ruleOf (s .family) .literalsIn (leader .charge / 256))
         → _≡_ {A = Expansion}
         (record {
-          coefficients = coefficients;
+          coefficients = set coefficients 0 0;
           blocks = blocks;
           mixed = leaderMixed (s .n) leader;
           fixed = leaderFixed (s .n) leader;
           products = products;
           literals = literals;
+          inverted = at coefficients 0;
         })
         (answerExpansion (s .family) (s .n) (s .k) (at table))
     unfolding answerExpansion
     record-answer products literals counts =
         rw (
-          filled-answer,
+          others,
           found ∙ polarities-answer s (at table) lanes limits outputs held-answer,
           mixed,
           fixed,
-          counts .0 ∙ leader-products (s .family) (s .n) (s .k) (at table) leader (limits .inputs) (limits .within) leads,
-          counts .1 ∙ leader-literals (s .family) (s .n) (s .k) (at table) leader (limits .inputs) (limits .within) leads,
+          counts .0 ∙ leader-products (s .family) (s .n) (s .k) (at table) leader (limits .inputs) (limits .within) leads outputs,
+          counts .1 ∙ leader-literals (s .family) (s .n) (s .k) (at table) leader (limits .inputs) (limits .within) leads outputs,
+          mask,
         )

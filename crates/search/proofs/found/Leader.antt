@@ -1,8 +1,9 @@
 -- The leader of all the pairs is the answer's: its pair is the answer's M and i (`leader-mixed`, `leader-fixed`), and its charge tells the
 -- answer's products and literals (`leader-products`, `leader-literals`).
-use mathlib.Core.Path.{_≡_, sym, ap, _∙_}
-use Prim.Native.Nat.{ℕ, _-_, _*_, _/_, _%_, _^_, _≤_}
+use mathlib.Core.Path.{_≡_, ap, _∙_}
+use Prim.Native.Nat.{ℕ, _-_, _*_, _/_, _%_, _^_, _≤_, _<_}
 use native.Mathlib.Omega.{arith}
+use lib.Arith.{digits-div}
 use lib.Bits.{bitAnd}
 use Rattle.numbers.proofs.Shifts.{mask-shifted}
 use Rattle.expansions.specs.Members.{Member}
@@ -14,7 +15,7 @@ use Rattle.expansions.specs.Answers.{leastPair, answerPair, answerMixed, answer
 use Rattle.search.specs.inner.Search.{pairValid, pairCost, Leads}
 use Rattle.search.specs.declared.pairs.Leader.{Leader}
 use Rattle.expansions.proofs.Least.{leading-chosen}
-use Rattle.expansions.proofs.Answers.{answer-first, answer-member, answer-charge}
+use Rattle.expansions.proofs.Answers.{answer-first, answer-member, answer-inverted-lt, answer-charge}
 
 module _ (F : Family) (n k : ℕ) (f : ℕ → ℕ) (leader : Leader) (hn : n ≤ 8) (hk : k ≤ n) (leads : Leads F n k f (2 ^ n * 2 ^ n) leader) where
   -- there is a valid pair, so the leader stands for one
@@ -42,14 +43,17 @@ module _ (F : Family) (n k : ℕ) (f : ℕ → ℕ) (leader : Leader) (hn : n �
   pub leader-member : Member n k (leader .pair / 2 ^ n) (bitAnd (leader .pair) (1 * 2 ^ n % 2 ^ 64 - 1)) (answerPolarity F n k f)
   leader-member = rw (leader-mixed, leader-fixed) (answer-member F n k f hk)
 
-  -- ---- products and literals
+  -- ---- products and literals, which the charge has above the mask
 
-  pub leader-charge : leader .charge ≡ charge (ruleOf F) n (answerCoefficient F n k f)
-  unfolding answerMixed answerFixed
-  leader-charge = leader-stands .1 ∙ sym (answer-charge F n k f hk)
+  module _ (bytes : (p : ℕ) → p < 2 ^ n → f p < 2 ^ 8) where
+    leader-charge : leader .charge / 256 ≡ charge (ruleOf F) n (answerCoefficient F n k f)
+    unfolding answerMixed answerFixed
+    leader-charge =
+        ap (λ (x : ℕ). x / 256) (leader-stands .1 ∙ answer-charge F n k f hk)
+        ∙ digits-div (charge (ruleOf F) n (answerCoefficient F n k f)) (answer-inverted-lt F n k f hk 8 bytes)
 
-  pub leader-products : ruleOf F .productsIn (leader .charge) ≡ products n (answerCoefficient F n k f)
-  leader-products = ap (ruleOf F .productsIn) leader-charge ∙ charge-products F n (answerCoefficient F n k f) hn
+    pub leader-products : ruleOf F .productsIn (leader .charge / 256) ≡ products n (answerCoefficient F n k f)
+    leader-products = ap (ruleOf F .productsIn) leader-charge ∙ charge-products F n (answerCoefficient F n k f) hn
 
-  pub leader-literals : ruleOf F .literalsIn (leader .charge) ≡ literals n (answerCoefficient F n k f)
-  leader-literals = ap (ruleOf F .literalsIn) leader-charge ∙ charge-literals F n (answerCoefficient F n k f) hn
+    pub leader-literals : ruleOf F .literalsIn (leader .charge / 256) ≡ literals n (answerCoefficient F n k f)
+    leader-literals = ap (ruleOf F .literalsIn) leader-charge ∙ charge-literals F n (answerCoefficient F n k f) hn

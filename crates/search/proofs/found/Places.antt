@@ -1,30 +1,27 @@
 -- The places of the record. From the block functions of the answer's M and i come the answer's block polarities (`polarities-answer`), and
--- from these the answer's coefficients (`coefficients-answer`).
-use mathlib.Core.Path.{_≡_, ap, _∙_}
+-- from these the coefficients of all its terms (`coefficients-expanded`); of these the constant is the mask (`without-first`).
+use mathlib.Core.Path.{_≡_, refl, ap, _∙_}
 use mathlib.Core.List.{List}
-use Prim.Native.Nat.{ℕ, _-_, _^_, _<_}
+use Prim.Native.Nat.{ℕ, suc, _-_, _^_, _<_}
 use native.Mathlib.Omega.{arith}
 use lib.Dec.{ltb}
+use lib.ListN.{set}
 use lib.Pow.{pow-mono}
 use Rattle.numbers.specs.Bytes.{at, tabulate}
-use Rattle.numbers.specs.Bits.{bit}
 use Rattle.numbers.specs.Tests.{only}
 use Rattle.numbers.proofs.Bytes.{tabulate-ext}
 use Rattle.expansions.specs.Members.{block, place, Member}
-use Rattle.expansions.specs.BlockTable.{entry}
 use Rattle.expansions.specs.Split.{gather, outside}
-use Rattle.expansions.specs.Answers.{blockFunction, memberCoefficient, answerMixed, answerFixed, answerPolarity, answerCoefficient}
+use Rattle.expansions.specs.Answers.{memberCoefficient, answerMixed, answerFixed, answerPolarity, expandedCoefficient, withoutConstant}
 use Rattle.lanes.specs.inner.Lanes.{blockLanes}
 use Rattle.lanes.specs.inner.Sizes.{Limits, MixedSet}
-use Rattle.lanes.specs.inner.Terms.{coefficientIn, coefficientAt}
+use Rattle.lanes.specs.inner.Terms.{coefficientAt}
 use Rattle.search.specs.inner.Search.{polarityAt}
 use Rattle.lanes.specs.declared.sizes.Sizes.{Sizes}
 use Rattle.numbers.proofs.Tables.{at-whole}
-use Rattle.numbers.proofs.Pack.{pack-ext}
-use Rattle.expansions.proofs.Blocks.{block-lt, place-lt, blockFunction-lt}
-use Rattle.expansions.proofs.BlockTable.{entry-outputs}
+use Rattle.expansions.proofs.Blocks.{block-lt, place-lt}
 use Rattle.expansions.proofs.Answers.{only-ext, answer-member, answer-polarity-lt, answer-polarity-zero}
-use Rattle.lanes.proofs.expand.Held.{held-plane, held-polarity}
+use Rattle.lanes.proofs.expand.Held.{held-coefficient, held-polarity}
 
 module _ (s : Sizes) (f : ℕ → ℕ) (lanes : List ℕ) (limits : Limits s) (outputs : (p : ℕ) → p < 2 ^ s .n → f p < 2 ^ 8)
     (held : lanes ≡ blockLanes (s .n) (s .k) (answerMixed (s .family) (s .n) (s .k) f)
@@ -32,8 +29,8 @@ module _ (s : Sizes) (f : ℕ → ℕ) (lanes : List ℕ) (limits : Limits s) (o
   member : Member (s .n) (s .k) (answerMixed (s .family) (s .n) (s .k) f) (answerFixed (s .family) (s .n) (s .k) f) (answerPolarity (s .family) (s .n) (s .k) f)
   member = answer-member (s .family) (s .n) (s .k) f (limits .within)
 
-  set : MixedSet s (answerMixed (s .family) (s .n) (s .k) f)
-  set = record { mask = member .mask; size = member .size }
+  mixed-set : MixedSet s (answerMixed (s .family) (s .n) (s .k) f)
+  mixed-set = record { mask = member .mask; size = member .size }
 
   -- ---- one place
 
@@ -41,21 +38,19 @@ module _ (s : Sizes) (f : ℕ → ℕ) (lanes : List ℕ) (limits : Limits s) (o
   unfolding polarityAt answerPolarity
   polarityAt-answer j =
       only-ext j (2 ^ (s .n - s .k)) _ _
-      (held-polarity s (answerMixed (s .family) (s .n) (s .k) f) (answerFixed (s .family) (s .n) (s .k) f) f lanes limits outputs set held j)
+      (held-polarity s (answerMixed (s .family) (s .n) (s .k) f) (answerFixed (s .family) (s .n) (s .k) f) f lanes limits outputs mixed-set held j)
 
-  coefficientAt-answer : (t : ℕ)
-      → coefficientAt (s .n) (answerMixed (s .family) (s .n) (s .k) f) (at lanes) (answerPolarity (s .family) (s .n) (s .k) f) t ≡ answerCoefficient (s .family) (s .n) (s .k) f t
-  unfolding coefficientAt coefficientIn answerCoefficient memberCoefficient
-  coefficientAt-answer t =
+  coefficientAt-expanded : (t : ℕ)
+      → coefficientAt (s .n) (answerMixed (s .family) (s .n) (s .k) f) (at lanes) (answerPolarity (s .family) (s .n) (s .k) f) t ≡ expandedCoefficient (s .family) (s .n) (s .k) f t
+  unfolding coefficientAt expandedCoefficient memberCoefficient
+  coefficientAt-expanded t =
       let M : ℕ = answerMixed (s .family) (s .n) (s .k) f in
       let i : ℕ = answerFixed (s .family) (s .n) (s .k) f in
       let φ : ℕ → ℕ = answerPolarity (s .family) (s .n) (s .k) f in
       let j : ℕ = block (s .n) M t in
       let j-lt : j < 2 ^ (s .n - s .k) = block-lt (s .n) (s .k) M i φ member t in
       ap (only (ltb t (2 ^ s .n)))
-      (pack-ext 8 _ _ (λ o l. ap (λ (g : ℕ). bit (place (s .n) M t) (entry g (φ j))) (held-plane s M i f lanes limits outputs set held o j l j-lt))
-      ∙ entry-outputs 8 (s .k) (φ j) (blockFunction (s .n) (s .k) f M i j) (limits .mixed) (member .inner j j-lt)
-      (λ p l. blockFunction-lt 8 (s .n) (s .k) M i f outputs (member .size) j p) (place (s .n) M t) (place-lt (s .n) (s .k) M i φ member t))
+      (held-coefficient s M i f lanes limits outputs mixed-set held j (place (s .n) M t) (φ j) j-lt (place-lt (s .n) (s .k) M i φ member t) (member .inner j j-lt))
 
   -- ---- all places
 
@@ -72,7 +67,17 @@ module _ (s : Sizes) (f : ℕ → ℕ) (lanes : List ℕ) (limits : Limits s) (o
   pub chosen-lt : (j : ℕ) → at (tabulate 256 (polarityAt (s .family) (s .n) (s .k) (at lanes))) j < 8
   chosen-lt j = omega (arith, ap (λ (φ : ℕ → ℕ). φ j) chosen-answer, answer-polarity-lt (s .family) (s .n) (s .k) f (limits .within) j, pow-mono (limits .mixed))
 
-  pub coefficients-answer :
+  pub coefficients-expanded :
       tabulate 256 (coefficientAt (s .n) (answerMixed (s .family) (s .n) (s .k) f) (at lanes) (at (tabulate 256 (polarityAt (s .family) (s .n) (s .k) (at lanes)))))
-      ≡ tabulate 256 (answerCoefficient (s .family) (s .n) (s .k) f)
-  coefficients-answer = rw chosen-answer (tabulate-ext 256 _ _ (λ t l. coefficientAt-answer t))
+      ≡ tabulate 256 (expandedCoefficient (s .family) (s .n) (s .k) f)
+  coefficients-expanded = rw chosen-answer (tabulate-ext 256 _ _ (λ t l. coefficientAt-expanded t))
+
+-- ---- the constant
+
+-- the first place cleared
+first-cleared : (N : ℕ) (g : ℕ → ℕ) → set (tabulate (suc N) g) 0 0 ≡ tabulate (suc N) (withoutConstant g)
+unfolding tabulate withoutConstant
+first-cleared N g = refl
+
+pub without-first : (g : ℕ → ℕ) → set (tabulate 256 g) 0 0 ≡ tabulate 256 (withoutConstant g)
+without-first g = first-cleared 255 g

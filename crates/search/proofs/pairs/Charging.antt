@@ -1,10 +1,11 @@
 -- The loop over the blocks of a pair. It holds what the blocks passed cost, each under its first least polarity (`BlocksSummed`); at the end
 -- that is the pair's charge (`blocks-all`).
-use mathlib.Core.Path.{_≡_, refl, ap, ap₂, _∙_}
+use mathlib.Core.Path.{_≡_, sym, ap, ap₂, _∙_}
 use Prim.Native.Nat.{ℕ, _+_, _-_, _*_, _%_, _^_, _≤_, _<_}
+use native.Mathlib.Nat.{zero-add}
 use native.Mathlib.Numerals.{add-one}
 use native.Mathlib.Omega.{arith}
-use lib.Pow.{pow-mono}
+use lib.Pow.{pow-pos, pow-mono}
 use Rattle.numbers.specs.Sums.{foldBelow, sumBelow}
 use Rattle.numbers.proofs.Shifts.{one-shifted, points-le}
 use Rattle.expansions.specs.Answers.{leastPolarity, pairCharge}
@@ -29,20 +30,24 @@ leastFrom-le s lanes j hk hj =
 pub record BlocksSummed (s : Sizes) (lanes : ℕ → ℕ) (count sum j : ℕ) : Type 0 where
   pub sizes : Limits s
   pub all : count ≡ 2 ^ (s .n - s .k)
+  pub some : 0 < j
   pub within : j ≤ count
   pub total : sum ≡ sumBelow j (leastFrom s lanes)
 
-pub blocks-none : (s : Sizes) (lanes : ℕ → ℕ) → Limits s → BlocksSummed s lanes (1 * 2 ^ (s .n - s .k) % 2 ^ 64) 0 0
+-- block 0 has been passed
+pub blocks-first : (s : Sizes) (lanes : ℕ → ℕ) (least : Cheapest) → Limits s → IsCheapest (s .k) (chargeFrom (s .family) lanes 0) least
+    → BlocksSummed s lanes (1 * 2 ^ (s .n - s .k) % 2 ^ 64) (least .charge) 1
 unfolding foldBelow
-blocks-none s lanes l =
-    record { sizes = l; all = one-shifted (s .n - s .k) (omega (arith, l .inputs)); within = omega arith; total = refl }
+blocks-first s lanes least l cheapest =
+    let all : 1 * 2 ^ (s .n - s .k) % 2 ^ 64 ≡ 2 ^ (s .n - s .k) = one-shifted (s .n - s .k) (omega (arith, l .inputs)) in
+    record { sizes = l; all = all; some = omega arith; within = omega (arith, all, pow-pos (s .n - s .k)); total = cheapest .charge ∙ sym (zero-add _) }
 
 module _ (s : Sizes) (lanes : ℕ → ℕ) (count sum j : ℕ) (turn : j < count) (summed : BlocksSummed s lanes count sum j) where
   pub blocks-few : j < 256
   blocks-few = omega (arith, summed .all, points-le (s .n - s .k) (omega (arith, summed .sizes .inputs)))
 
   module _ (least : Cheapest) (cheapest : IsCheapest (s .k) (chargeFrom (s .family) lanes j) least) where
-    pub blocks-lt : sum + least .charge < 2 ^ 31
+    pub blocks-lt : sum + least .charge < 2 ^ 32
     blocks-lt =
         let one = leastFrom-le s lanes j (summed .sizes .mixed) blocks-few in
         let rest = sum-le j mostCharge (leastFrom s lanes) (λ i l. leastFrom-le s lanes i (summed .sizes .mixed) (omega (arith, blocks-few))) in
@@ -54,6 +59,7 @@ module _ (s : Sizes) (lanes : ℕ → ℕ) (count sum j : ℕ) (turn : j < count
         record {
           sizes = summed .sizes;
           all = summed .all;
+          some = omega arith;
           within = omega arith;
           total = rw (add-one j) (ap₂ _+_ (summed .total) (cheapest .charge));
         }

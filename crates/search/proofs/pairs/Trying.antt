@@ -57,7 +57,7 @@ module _ (s : Sizes) (M : ℕ) (table : List ℕ) (count w : ℕ) (lanes : List 
         long = same ∙ t .long;
         held = λ h′. next (placesByte (s .n) (s .k) M (at table)) (omega (arith, t .all)) (t .held h);
         led = rw e (tried-next (s .family) (s .n) (s .k) M (at table) l (set .size) w _ below cost
-            (omega (arith, cost, pairCharge-lt s (at table) M i limits)) (t .led));
+            (omega (arith, cost, pairCharge-lt s (at table) M i limits set (λ p q. given .bytes p))) (t .led));
       }
     where
       i : ℕ

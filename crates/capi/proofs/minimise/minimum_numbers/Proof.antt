@@ -8,6 +8,9 @@ use Rattle.capi.proofs.minimise.minimum_numbers.Tie as tie
 enum-known-r : tie.Need-enum-known-r
 enum-known-r c = search needs
 
+cast-t14 : tie.Need-cast-t14
+cast-t14 c = search needs
+
 enum-known-r-2 : tie.Need-enum-known-r-2
 enum-known-r-2 c = search needs
 
@@ -20,4 +23,4 @@ unfolding minimumNumbers
 returns-2 c = sym (ap minimumNumbers (c .before .r2 .given .1))
 
 pub minimum-numbers-spec : {M : Type 1} → statement M
-minimum-numbers-spec = tie.close (tie.spec enum-known-r enum-known-r-2 returns returns-2)
+minimum-numbers-spec = tie.close (tie.spec enum-known-r cast-t14 enum-known-r-2 returns returns-2)

@@ -1,15 +1,18 @@
 -- The loop holds the first least of the sums tried, and the rest of the word.
 use borrow.Author.Needs.{needs}
 use mathlib.Core.Logic.{⊎-elim}
+use mathlib.Core.Path.{sym, _∙_}
 use Prim.Native.Nat.{_-_, _*_, _%_, _^_}
 use native.Mathlib.Omega.{arith}
-use lib.Bits.{mask-lt}
-use Rattle.lanes.proofs.charges.Polarities.{SumsTried, count-pos, tried-first, tried-take, tried-keep, tried-all}
+use lib.Bits.{mask-lt, and-mask}
+use Rattle.numbers.specs.Words.{byte}
+use Rattle.numbers.proofs.Words.{byte-zero, byte-lt}
+use Rattle.lanes.proofs.charges.Polarities.{SumsTried, Shifted, count-pos, shifted-first, shifted-byte, shifted-more, tried-first, tried-take, tried-keep, tried-all}
 use Rattle.lanes.proofs.charges.least_sum.Statement.{statement}
 use Rattle.lanes.proofs.charges.least_sum.Tie as tie
 
 abbrev Inv-loop : tie.InvT-loop
-Inv-loop k sums count least₀ rest₀ left₀ least rest left = SumsTried k sums count least rest left
+Inv-loop k sums count least₀ rest₀ left₀ least rest left = SumsTried k 256 (λ φ. byte φ sums) count least left × Shifted sums count rest left
 
 abbrev μ-loop : tie.MeasureT-loop
 μ-loop k sums count least₀ rest₀ left₀ least rest left = left
@@ -24,13 +27,14 @@ sub-left : tie.Need-sub-left Inv-loop μ-loop
 sub-left c = count-pos _ (c .pre)
 
 loop-holds : tie.Need-loop-holds Inv-loop μ-loop
-loop-holds c = tried-first _ _ (c .pre)
+loop-holds c =
+    (tried-first _ (c .pre) 256 (λ φ. byte φ (c .args .sums)) _ (λ φ. byte-lt φ _) (and-mask (c .args .sums) 8 ∙ sym (byte-zero (c .args .sums))), shifted-first _ (c .pre) _)
 
 cast-sum : tie.Need-cast-sum Inv-loop μ-loop
 cast-sum c = omega (arith, mask-lt (c .before .loop .rest) 8)
 
 sub-t12 : tie.Need-sub-t12 Inv-loop μ-loop
-sub-t12 c = omega (arith, c .before .before .before .loop .inv .some)
+sub-t12 c = omega (arith, c .before .before .before .loop .inv .0 .some)
 
 cast-t14 : tie.Need-cast-t14 Inv-loop μ-loop
 cast-t14 c = let b = c .before .before .before in omega (arith, mask-lt (1 * 2 ^ b .before .args .k % 2 ^ 64 - b .loop .left) 8)
@@ -45,10 +49,14 @@ loop-again : tie.Need-loop-again Inv-loop μ-loop
 loop-again c =
     let l = c .before .before .before .loop in
     let turn = c .before .before .loop-test .taken in
-    ⊎-elim (λ w. rw (w .1) (tried-take _ _ _ _ _ _ turn (l .inv) (w .0 .taken))) (λ w. rw (w .1) (tried-keep _ _ _ _ _ _ turn (l .inv) (w .0 .left))) (c .if1 .came)
+    let tried = l .inv .0 in
+    let e = and-mask (l .rest) 8 ∙ sym (byte-zero (l .rest)) ∙ shifted-byte _ _ _ _ turn (tried .some) (l .inv .1) in (
+      ⊎-elim (λ w. rw (w .1) (tried-take _ _ _ _ _ _ _ turn tried e (w .0 .taken))) (λ w. rw (w .1) (tried-keep _ _ _ _ _ _ _ turn tried e (w .0 .left))) (c .if1 .came),
+      shifted-more _ _ _ _ turn (tried .some) (l .inv .1),
+    )
 
 returns : tie.Need-returns Inv-loop μ-loop
-returns c = tried-all _ _ _ _ _ _ (c .loop-test .left) (c .before .loop .inv)
+returns c = tried-all _ _ _ _ _ _ (c .loop-test .left) (c .before .loop .inv .0)
 
 pub least-sum-spec : {M : Type 1} → statement M
 least-sum-spec =

@@ -100,12 +100,18 @@ coefficients-requires c κs =
 empty-requires : tie.Need-empty-requires
 empty-requires c κs = search needs
 
+array-read-inverted : tie.Need-array-read-inverted
+array-read-inverted c = search needs
+
+array-write-filled : tie.Need-array-write-filled
+array-write-filled c = search needs
+
 counts-in-requires : tie.Need-counts-in-requires
 counts-in-requires c κs = search needs
 
 returns : tie.Need-returns
 returns c =
-    let d = c .before .before in
+    let d = c .before .before .before in
     let e = d .before .before .before .before .before .before in
     let s = start e in
     let p = s .pre .1 in
@@ -131,6 +137,8 @@ expansion-of-spec =
     array-share-prefix-lanes-2
     slice-aggregate-coefficients
     coefficients-requires
+    array-read-inverted
+    array-write-filled
     counts-in-requires
     empty-requires
     returns)

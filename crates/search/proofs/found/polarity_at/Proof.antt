@@ -1,11 +1,14 @@
 -- The answer on either side of the last block is one case of `polarityAt`.
 use borrow.Author.Needs.{needs}
-use mathlib.Core.Path.{_≡_, sym, _∙_}
-use Prim.Native.Nat.{_-_, _*_, _%_, _^_, _≤_, _<_}
-use lib.Pow.{pow-mono}
+use mathlib.Core.Path.{_≡_, sym, ap, _∙_}
+use Prim.Native.Nat.{ℕ, _-_, _*_, _%_, _^_, _≤_, _<_}
+use lib.Pow.{pow-pos, pow-mono}
+use Rattle.numbers.specs.Bytes.{at}
 use Rattle.numbers.proofs.Shifts.{one-shifted}
 use Rattle.search.specs.inner.Search.{polarityAt}
+use Rattle.expansions.specs.Answers.{leastPolarity}
 use Rattle.expansions.proofs.Answers.{only-below, only-above}
+use Rattle.lanes.specs.inner.Charges.{chargeFrom}
 use native.Mathlib.Omega.{arith}
 use Rattle.search.proofs.found.polarity_at.Statement.{statement}
 use Rattle.search.proofs.found.polarity_at.Tie as tie
@@ -29,18 +32,31 @@ returns c =
     let h : 2 ^ (a .sizes .n - a .sizes .k) ≤ a .j = omega (arith, c .if1 .taken, count (c .before .before .before)) in
     sym (only-above _ _ _ h)
 
-cheapest-block-requires : tie.Need-cheapest-block-requires
-cheapest-block-requires c κs =
-    let p = c .before .before .before .pre in
-    let z = c .before .before .before .args .sizes in
-    let few : c .before .before .before .args .j < 256 =
-    omega (arith, below c, pow-mono {i = z .n - z .k} {j = 8} (omega (arith, p .1 .0 .inputs))) in
-    ((p .0, few, omega (arith, below c, p .1 .1)), p .1 .0)
+cheapest-first-requires : tie.Need-cheapest-first-requires
+cheapest-first-requires c κs =
+    let s = c .before .before .before .before in
+    ((s .pre .0, omega (arith, s .pre .1 .1, pow-pos (s .args .sizes .n - s .args .sizes .k))), s .pre .1 .0)
 
 returns-2 : tie.Need-returns-2
 unfolding polarityAt
-returns-2 c = c .cheapest-block .ensures .polarity ∙ sym (only-below _ _ _ (below (c .before)))
+returns-2 c =
+    let a = c .before .before .before .before .before .args in
+    let f : ℕ → ℕ = λ j. leastPolarity (a .sizes .k) (chargeFrom (a .sizes .family) (at (a .lanes .now)) j) in
+    c .cheapest-first .ensures .polarity ∙ ap f (sym (c .before .if2 .taken)) ∙ sym (only-below _ _ _ (below (c .before .before)))
+
+cheapest-other-requires : tie.Need-cheapest-other-requires
+cheapest-other-requires c κs =
+    let e = c .before in
+    let p = e .before .before .before .pre in
+    let z = e .before .before .before .args .sizes in
+    let few : e .before .before .before .args .j < 256 =
+    omega (arith, below e, pow-mono {i = z .n - z .k} {j = 8} (omega (arith, p .1 .0 .inputs))) in
+    ((p .0, few, omega (arith, below e, p .1 .1)), (p .1 .0, omega (arith, c .if2 .left)))
+
+returns-3 : tie.Need-returns-3
+unfolding polarityAt
+returns-3 c = c .cheapest-other .ensures .polarity ∙ sym (only-below _ _ _ (below (c .before .before)))
 
 pub polarity-at-spec : {M : Type 1} → statement M
 polarity-at-spec =
-    tie.close (tie.spec sub-count shl-count returns cheapest-block-requires returns-2)
+    tie.close (tie.spec sub-count shl-count returns cheapest-first-requires returns-2 cheapest-other-requires returns-3)

@@ -2,8 +2,9 @@
 use borrow.Author.Needs.{needs}
 use Prim.Native.Nat.{_-_}
 use native.Mathlib.Omega.{arith}
+use lib.Pow.{pow-pos}
 use Rattle.numbers.specs.Bytes.{at}
-use Rattle.search.proofs.pairs.Charging.{BlocksSummed, blocks-none, blocks-few, blocks-lt, blocks-more, blocks-all}
+use Rattle.search.proofs.pairs.Charging.{BlocksSummed, blocks-first, blocks-few, blocks-lt, blocks-more, blocks-all}
 use Rattle.search.proofs.pairs.pair_charge.Statement.{statement}
 use Rattle.search.proofs.pairs.pair_charge.Tie as tie
 
@@ -19,20 +20,26 @@ sub-count c = c .before .before .pre .1 .0 .within
 shl-count : tie.Need-shl-count Inv-loop μ-loop
 shl-count c = omega (arith, c .before .before .pre .1 .0 .inputs)
 
-loop-holds : tie.Need-loop-holds Inv-loop μ-loop
-loop-holds c = blocks-none _ (at (c .before .before .args .lanes .now)) (c .before .before .pre .1 .0)
+cheapest-first-requires : tie.Need-cheapest-first-requires Inv-loop μ-loop
+cheapest-first-requires c κs =
+    let s = c .before .before in
+    let p = s .pre in
+    ((p .0, omega (arith, p .1 .1, pow-pos (s .args .sizes .n - s .args .sizes .k))), p .1 .0)
 
-cheapest-block-requires : tie.Need-cheapest-block-requires Inv-loop μ-loop
-cheapest-block-requires c κs =
-    let p = c .before .before .before .before .pre in
+loop-holds : tie.Need-loop-holds Inv-loop μ-loop
+loop-holds c = let s = c .before .before .before in blocks-first _ (at (s .args .lanes .now)) _ (s .pre .1 .0) (c .cheapest-first .ensures)
+
+cheapest-other-requires : tie.Need-cheapest-other-requires Inv-loop μ-loop
+cheapest-other-requires c κs =
+    let p = c .before .before .before .before .before .pre in
     let l = c .before .loop in
     let few = blocks-few _ _ _ _ _ (c .loop-test .taken) (l .inv) in
-    ((p .0, few, omega (arith, p .1 .1, l .inv .all)), p .1 .0)
+    ((p .0, few, omega (arith, p .1 .1, l .inv .all)), (p .1 .0, l .inv .some))
 
 add-sum : tie.Need-add-sum Inv-loop μ-loop
 add-sum c =
     let l = c .before .before .before .loop in
-    omega (arith, blocks-lt _ _ _ _ _ (c .before .before .loop-test .taken) (l .inv) _ (c .before .cheapest-block .ensures))
+    omega (arith, blocks-lt _ _ _ _ _ (c .before .before .loop-test .taken) (l .inv) _ (c .before .cheapest-other .ensures))
 
 add-j : tie.Need-add-j Inv-loop μ-loop
 add-j c = search needs
@@ -43,7 +50,7 @@ loop-less c = search needs
 loop-again : tie.Need-loop-again Inv-loop μ-loop
 loop-again c =
     let l = c .before .before .before .loop in
-    blocks-more _ _ _ _ _ (c .before .before .loop-test .taken) (l .inv) _ (c .before .cheapest-block .ensures)
+    blocks-more _ _ _ _ _ (c .before .before .loop-test .taken) (l .inv) _ (c .before .cheapest-other .ensures)
 
 returns : tie.Need-returns Inv-loop μ-loop
 returns c = blocks-all _ _ _ _ _ (c .loop-test .left) (c .before .loop .inv)
@@ -56,8 +63,9 @@ pair-charge-spec =
     μ-loop
     sub-count
     shl-count
+    cheapest-first-requires
     loop-holds
-    cheapest-block-requires
+    cheapest-other-requires
     add-sum
     add-j
     loop-less
