@@ -1,4 +1,4 @@
-// Writing the listing of an expansion of document 01's class: `form` or `form2`, a line for each product, `end`.
+// Writing the listing of an expansion of document 01's class: `form` or `form2`, `inv`, a line for each product, `end`.
 use crate::listed::Listed;
 use crate::terms::TERM;
 use crate::terms::begin_term;
@@ -15,13 +15,14 @@ ghost use Prim.Native.Nat.{_+_, _*_, _^_, _≤_, _<_};
 ghost use lib.ListN.{length};
 ghost use Rattle.numbers.specs.Bytes.{at};
 ghost use Rattle.numbers.specs.Nonzero.{ifNonzero};
-ghost use Rattle.listings.specs.Listing.{formWord, formLine, termLine, productLines, listing};
+ghost use Rattle.listings.specs.Listing.{formWord, formLine, invLine, termLine, productLines, listing};
 ghost use Rattle.listings.specs.inner.Listable.{Listable};
 ghost use Rattle.writing.specs.Put.{Put};
 ghost use Rattle.listing_writing.specs.Write.{WriteListing};
 
-// The bytes of the first and the last line besides the first word and the digits: the word `end`, seven tabs and two line ends.
-const FRAME: usize = 12;
+// The bytes of the first two lines and the last one besides the first word, the digits and the outputs: the words `inv` and `end`, eight tabs and
+// three line ends.
+const FRAME: usize = 17;
 
 // The bytes of the first word.
 fn word_length(family: Family) -> usize
@@ -42,6 +43,15 @@ fn write_form(family: Family, start: Writer, out: &mut [u8], numbers: &[usize]) 
         Family::One => write_line(start, out, b"form", numbers),
         Family::Two => write_line(start, out, b"form2", numbers),
     }
+}
+
+// The second line: `inv`, and the outputs that are inverted.
+fn write_inv(start: Writer, out: &mut [u8], m: usize, inverted: u8) -> Writer
+    requires { ⌜ (m ≤ 8) × (start .at + (5 + m) ≤ length (now out)) ⌝ }
+    ensures { λ r. ⌜ Put (now (out .entry)) (start .at) (invLine m inverted) (now (out .exit)) (r .at) ⌝ }
+{
+    let word = start.word(out, b"inv");
+    end_term(word, out, m, inverted)
 }
 
 // The line of the term t under the polarity w, where its coefficient c is not 0, and nothing where it is.
@@ -105,13 +115,15 @@ pub fn write_listing(
     ensures { λ r. ⌜ WriteListing (listing family n m k e) (now (out .entry)) r (now (out .exit)) ⌝ }
 {
     let numbers = [n, m, k, e.mixed, e.fixed, e.products, e.literals];
-    let length = FRAME + word_length(family) + digits_of(&numbers) + e.products * (n + m + TERM);
+    let frame = FRAME + word_length(family) + m;
+    let length = frame + digits_of(&numbers) + e.products * (n + m + TERM);
     if out.len() < length {
         return Listed::Short;
     }
     let coefficients = e.coefficients;
     let blocks = e.blocks;
-    let terms = write_form(family, Writer { at: 0 }, out, &numbers);
+    let second = write_form(family, Writer { at: 0 }, out, &numbers);
+    let terms = write_inv(second, out, m, e.inverted);
     let end = write_terms(terms, out, n, m, e.mixed, e.fixed, &coefficients, &blocks);
     let stop = write_end(end, out);
     Listed::Length(stop.at)

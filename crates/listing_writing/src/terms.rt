@@ -1,4 +1,4 @@
-// What every line `term` has alike, and the last line.
+// What every line `term` has alike, how a line with outputs ends, and the last line.
 use writing::writer::Writer;
 ghost use mathlib.Core.List.{[], _∷_, _++_};
 ghost use Prim.Native.Nat.{_+_, _≤_};
@@ -18,7 +18,7 @@ pub fn begin_term(start: Writer, out: &mut [u8]) -> Writer
     start.word(out, b"term").byte(out, b'\t')
 }
 
-// What stands after the cube: a tab, the outputs of the coefficient c, and the line end.
+// What stands after a cube, and after the word `inv`: a tab, the outputs of c, and the line end.
 pub fn end_term(start: Writer, out: &mut [u8], m: usize, c: u8) -> Writer
     requires { ⌜ (m ≤ 8) × (start .at + (m + 2) ≤ length (now out)) ⌝ }
     ensures { λ r. ⌜ Put (now (out .entry)) (start .at) (9 ∷ outputBytes m c ++ 10 ∷ []) (now (out .exit)) (r .at) ⌝ }

@@ -7,7 +7,7 @@ use mathlib.Core.Path.{_≡_, refl, sym, ap, ap₂, _∙_}
 use Prim.Native.Nat.{ℕ, zero, suc, _+_, _-_, _*_, _^_, _≤_, _<_}
 use native.Mathlib.Nat.{mul-le-mul}
 use native.Mathlib.Omega.{arith}
-use lib.Bits.{bitXor}
+use lib.Bits.{bitXor, xor-zero-r}
 use lib.Dec.{eqb, lit<}
 use lib.ListN.{length, getD, length-append}
 use lib.Pow.{pow-mono}
@@ -26,16 +26,17 @@ use Rattle.expansions.specs.kronecker.Answers.{KroneckerMinimal}
 use Rattle.expansions.proofs.Costs.{products-le}
 use Rattle.expansions.proofs.Rivals.{kronecker-rivals}
 use Rattle.listings.specs.Parts.{bytes, same}
-use Rattle.listings.specs.Listing.{tabbed, line, decimal, descending}
+use Rattle.listings.specs.Listing.{tabbed, line, decimal, descending, cubeLines}
 use Rattle.listings.specs.inner.Lengths.{digitsOf}
 use Rattle.listings.specs.Kronecker.{letterByte, letterBytes, literalByte, kroneckerCube, kroneckerFields, kroneckerLine, kroneckerListing}
-use Rattle.listings.specs.Meaning.{allows, cubeTrue, literalsIn, listingValue, listingProducts, listingLiterals, firstNumbers, numberSaid, statedProducts, statedLiterals, IsListing}
-use Rattle.listings.proofs.Joined.{Plain, plain-descending}
+use Rattle.listings.specs.Meaning.{allows, cubeTrue, literalsIn, listingInverted, listingValue, listingProducts, listingLiterals}
+use Rattle.listings.specs.Meaning.{firstNumbers, numberSaid, statedProducts, statedLiterals, IsListing}
+use Rattle.listings.proofs.Joined.{Plain, AllPlain, plain-descending}
 use Rattle.listings.proofs.Characters.{length-descending, at-descending, length-decimal, digitCount-in}
 use Rattle.listings.proofs.Cubes.{decimal-said}
 use Rattle.listings.proofs.Lengths.{tabbed-append, length-listingAfter, length-stated}
 use Rattle.listings.proofs.Longest.{digitCount-one, digitCount-three}
-use Rattle.listings.proofs.Meaning.{plain-decimal, Heading, heading-numbers, cubes-value, cubes-products, cubes-literals}
+use Rattle.listings.proofs.Meaning.{plain-decimal, Heading, heading-line, heading-numbers, cubes-inverted, cubes-value, cubes-products, cubes-literals}
 
 -- ---- characters
 
@@ -126,36 +127,47 @@ module _ (n m : ℕ) (letters : ℕ → ℕ) (p l : ℕ) where
 -- ---- the listing, of any letters, coefficients and counts
 
 module _ (n m : ℕ) (letters c : ℕ → ℕ) (p l : ℕ) where
-  heading : Heading (bytes "kron") (kroneckerFields n m letters p l)
-  unfolding bytes same
-  heading =
-      record {
-        plain-word = (lit< tt, (lit< tt, (lit< tt, (lit< tt, tt))));
-        plain-fields = (plain-decimal n, (plain-decimal m, (plain-letters n letters, (plain-decimal p, (plain-decimal l, tt)))));
-        other = refl;
-      }
+  plain-word : Plain (bytes "kron")
+  unfolding bytes
+  plain-word = (lit< tt, (lit< tt, (lit< tt, (lit< tt, tt))))
+
+  plain-fields : AllPlain (kroneckerFields n m letters p l)
+  plain-fields = (plain-decimal n, (plain-decimal m, (plain-letters n letters, (plain-decimal p, (plain-decimal l, tt)))))
+
+  -- its first line inverts no output
+  heading : Heading (kroneckerLine n m letters p l) ((bytes "kron" ++ tabbed (kroneckerFields n m letters p l)) ∷ []) 0
+  unfolding kroneckerLine bytes same
+  heading = heading-line (bytes "kron") (kroneckerFields n m letters p l) plain-word plain-fields refl
+
+  -- "Kronecker listings have no inverters."
+  pub kronecker-listing-inverted : listingInverted (kroneckerListing n m letters c p l) ≡ 0
+  unfolding kroneckerListing
+  kronecker-listing-inverted = cubes-inverted _ _ 0 heading n m (kroneckerCube n letters) c (plain-cube n letters)
 
   pub kronecker-listing-value : ((t : ℕ) → t < 2 ^ n → c t < 2 ^ m) → (q : ℕ) → listingValue (kroneckerListing n m letters c p l) q ≡ kroneckerValue n letters c q
-  unfolding kroneckerListing kroneckerLine kroneckerValue
+  unfolding kroneckerListing kroneckerValue
   kronecker-listing-value small q =
-      cubes-value (bytes "kron") (kroneckerFields n m letters p l) heading n m (kroneckerCube n letters) c (plain-cube n letters) small q
+      cubes-value _ _ 0 heading n m (kroneckerCube n letters) c (plain-cube n letters) small q
+      ∙ xor-zero-r _
       ∙ fold-ext bitXor (2 ^ n) _ _ (λ t h. ap (λ (b : Bool). only b (c t)) (kronecker-cube-true n letters t q))
 
   pub kronecker-listing-products : listingProducts (kroneckerListing n m letters c p l) ≡ products n c
-  unfolding kroneckerListing kroneckerLine
-  kronecker-listing-products =
-      cubes-products (bytes "kron") (kroneckerFields n m letters p l) heading n m (kroneckerCube n letters) c (plain-cube n letters)
+  unfolding kroneckerListing
+  kronecker-listing-products = cubes-products _ _ 0 heading n m (kroneckerCube n letters) c (plain-cube n letters)
 
   pub kronecker-listing-literals : listingLiterals (kroneckerListing n m letters c p l) ≡ kroneckerLiterals n letters c
-  unfolding kroneckerListing kroneckerLine kroneckerLiterals
+  unfolding kroneckerListing kroneckerLiterals
   kronecker-listing-literals =
-      cubes-literals (bytes "kron") (kroneckerFields n m letters p l) heading n m (kroneckerCube n letters) c (plain-cube n letters)
+      cubes-literals _ _ 0 heading n m (kroneckerCube n letters) c (plain-cube n letters)
       ∙ fold-ext _+_ (2 ^ n) _ _ (λ t h. ap (λ (x : ℕ). counted (c t) x) (kronecker-cube-literals n letters t))
 
   numbers : firstNumbers (kroneckerListing n m letters c p l)
       ≡ numberSaid 0 (decimal n) ∷ numberSaid 0 (decimal m) ∷ numberSaid 0 (letterBytes n letters) ∷ numberSaid 0 (decimal p) ∷ numberSaid 0 (decimal l) ∷ []
   unfolding kroneckerListing kroneckerLine
-  numbers = heading-numbers (bytes "kron") (kroneckerFields n m letters p l) heading n m (kroneckerCube n letters) c
+  numbers =
+      let terms : List ℕ = cubeLines m (kroneckerCube n letters) c (2 ^ n) in
+      ap firstNumbers (append-assoc (kroneckerLine n m letters p l) terms (line (bytes "end") []))
+      ∙ heading-numbers (bytes "kron") (kroneckerFields n m letters p l) _ plain-word plain-fields
 
   kronecker-stated-products : p < 10000 → statedProducts (kroneckerListing n m letters c p l) ≡ p
   kronecker-stated-products h = ap (λ (xs : List ℕ). getD xs (length xs - 2) 0) numbers ∙ decimal-said p h

@@ -1,5 +1,5 @@
--- How long the parts of a listing are. The length of a listing follows from its first word, the digits of its numbers and the number of its
--- products (`length-listing`).
+-- How long the parts of a listing are. The length of a listing follows from its first word, the digits of its numbers, the outputs and the number of
+-- its products (`length-listing`).
 use lib.Pow.{pow-mono}
 use Rattle.expansions.proofs.Costs.{products-le}
 use mathlib.Core.List.{List, [], _∷_, _++_, map, map-append, append-assoc, append-nil}
@@ -20,15 +20,15 @@ use Rattle.expansions.specs.declared.families.Family.the-variants.{One, Two}
 use Rattle.expansions.specs.Members.{polarity}
 use Rattle.search.specs.declared.expansion.Expansion.{Expansion}
 use Rattle.listings.specs.Parts.{bytes}
-use Rattle.listings.specs.Listing.{tabbed, line, digitCount, decimal, cube, outputBytes, numbersOf, formWord, formLine, cubeLine, cubeLines, listingAfter, listingWith, listing}
+use Rattle.listings.specs.Listing.{tabbed, line, digitCount, decimal, cube, outputBytes, numbersOf, formWord, formLine, invLine, cubeLine, cubeLines, listingAfter, listingWith, listing}
 use Rattle.listings.specs.inner.Listable.{Listable}
 use Rattle.listings.specs.inner.Lengths.{digitsOf}
 use Rattle.listings.proofs.Characters.{length-decimal, digitCount-in, length-cube, length-outputs}
 
--- its length, from its first word, the digits of its numbers and the number of its products (`length-listing`)
+-- its length, from its first word, the digits of its numbers, the outputs and the number of its products (`length-listing`)
 unfoldable pub listingLength : Family → ℕ → ℕ → ℕ → Expansion → ℕ
 listingLength family n m k e =
-    8 + length (formWord family) + digitsOf (numbersOf n m k e)
+    8 + length (formWord family) + digitsOf (numbersOf n m k e) + (5 + m)
     + products n (at (e .coefficients)) * (5 + n + 1 + m + 1) + 4
 
 -- ---- numbers, each after a tab
@@ -128,12 +128,26 @@ length-formLine family xs =
       length-numbers xs,
     )
 
+-- the line `inv`: its word, and what stands after it
+pub invLine-parts : (m v : ℕ) → invLine m v ≡ bytes "inv" ++ (9 ∷ outputBytes m v ++ 10 ∷ [])
+unfolding invLine line tabbed bytes
+invLine-parts m v = simp append-assoc
+
+pub length-invLine : (m v : ℕ) → length (invLine m v) ≡ 5 + m
+unfolding invLine line tabbed bytes
+length-invLine m v = simp (length-append, length-outputs) (omega arith)
+
+-- the first two lines together
+length-form-inv : (family : Family) (xs : List ℕ) (m v : ℕ)
+    → length (formLine family xs ++ invLine m v) ≡ 1 + length xs + length (formWord family) + digitsOf xs + (5 + m)
+length-form-inv family xs m v = length-append (formLine family xs) (invLine m v) ∙ rw (length-formLine family xs, length-invLine m v)
+
 -- ---- the listing
 
 length-three : (a b d : List ℕ) → length (a ++ b ++ d) ≡ length a + length b + length d
 length-three a b d = omega (arith, length-append (a ++ b) d, length-append a b)
 
--- a whole listing, by its first line
+-- a whole listing, by what stands before its products
 pub length-listingAfter : (first : List ℕ) (n m : ℕ) (x : ℕ → List ℕ) (c : ℕ → ℕ) → ((t : ℕ) → length (x t) ≡ n)
     → length (listingAfter first n m x c) ≡ length first + products n c * (5 + n + 1 + m + 1) + 4
 unfolding products line tabbed bytes
@@ -141,17 +155,17 @@ length-listingAfter first n m x c h =
     length-three first (cubeLines m x c (2 ^ n)) (line (bytes "end") [])
     ∙ rw (length-cubeLines n m x c h (2 ^ n))
 
-pub length-listingWith : (family : Family) (numbers : List ℕ) (n m : ℕ) (w c : ℕ → ℕ)
-    → length (listingWith family numbers n m w c)
-    ≡ 1 + length numbers + length (formWord family) + digitsOf numbers + products n c * (5 + n + 1 + m + 1) + 4
+pub length-listingWith : (family : Family) (numbers : List ℕ) (v n m : ℕ) (w c : ℕ → ℕ)
+    → length (listingWith family numbers v n m w c)
+    ≡ 1 + length numbers + length (formWord family) + digitsOf numbers + (5 + m) + products n c * (5 + n + 1 + m + 1) + 4
 unfolding listingWith
-length-listingWith family numbers n m w c =
-    length-listingAfter (formLine family numbers) n m (λ t. cube n t (w t)) c (λ t. length-cube n t (w t)) ∙ rw (length-formLine family numbers)
+length-listingWith family numbers v n m w c =
+    length-listingAfter (formLine family numbers ++ invLine m v) n m (λ t. cube n t (w t)) c (λ t. length-cube n t (w t)) ∙ rw (length-form-inv family numbers m v)
 
 pub length-listing : (family : Family) (n m k : ℕ) (e : Expansion) → length (listing family n m k e) ≡ listingLength family n m k e
 unfolding listing listingLength
 length-listing family n m k e =
-    length-listingWith family (numbersOf n m k e) n m (polarity n (e .mixed) (e .fixed) (at (e .blocks))) (at (e .coefficients))
+    length-listingWith family (numbersOf n m k e) (e .inverted) n m (polarity n (e .mixed) (e .fixed) (at (e .blocks))) (at (e .coefficients))
 
 -- ---- from the products that a record states
 
@@ -174,14 +188,14 @@ module _ (n m p : ℕ) (c : ℕ → ℕ) (counted : p ≡ products n c) where
       let most : p ≤ 256 = omega (arith, counted, products-le n c, pow-mono {i = n} {j = 8} hn) in
       mul-le-mul {n₁ = p} {m₁ = n + m + 7} {n₂ = 256} {m₂ = 23} most (omega arith)
 
--- the length of a record's listing, from its first word, the digits of its numbers and the products that it states
+-- the length of a record's listing, from its first word, the digits of its numbers, the outputs and the products that it states
 pub listing-stated : (family : Family) (n m k : ℕ) (e : Expansion) → Listable n m e
-    → 12 + length (formWord family) + digitsOf (numbersOf n m k e) + e .products * (n + m + 7) ≡ length (listing family n m k e)
+    → 17 + length (formWord family) + m + digitsOf (numbersOf n m k e) + e .products * (n + m + 7) ≡ length (listing family n m k e)
 unfolding listing listingWith
 listing-stated family n m k e f =
     omega (
       arith,
-      length-stated n m (e .products) (at (e .coefficients)) (f .counted) (formLine family (numbersOf n m k e))
+      length-stated n m (e .products) (at (e .coefficients)) (f .counted) (formLine family (numbersOf n m k e) ++ invLine m (e .inverted))
           (λ t. cube n t (polarity n (e .mixed) (e .fixed) (at (e .blocks)) t)) (λ t. length-cube n t _),
-      length-formLine family (numbersOf n m k e),
+      length-form-inv family (numbersOf n m k e) m (e .inverted),
     )

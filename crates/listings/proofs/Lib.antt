@@ -5,6 +5,7 @@ pub mod Characters
 pub mod Lengths
 pub mod Cubes
 pub mod Meaning
+pub mod Forms
 pub mod Longest
 pub mod ListedAnswers
 pub mod Kronecker

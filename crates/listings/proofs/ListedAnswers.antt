@@ -14,7 +14,7 @@ use Rattle.expansions.proofs.Rivals.{block-rivals}
 use Rattle.listings.specs.Listing.{numbersOf, listing}
 use Rattle.listings.specs.inner.Listable.{Listable}
 use Rattle.listings.specs.Meaning.{listingValue, listingProducts, listingLiterals, IsListing}
-use Rattle.listings.proofs.Meaning.{listing-value, listing-products, listing-literals, stated-products, stated-literals}
+use Rattle.listings.proofs.Forms.{listing-value, listing-products, listing-literals, stated-products, stated-literals}
 
 module _ (family : Family) (n m k : ℕ) (e : Expansion) (f : ℕ → ℕ) (hn : n ≤ 8) (hm : m ≤ 8) (hk : k ≤ 3) (minimal : Answered family n k f e) where
   w : ℕ → ℕ
@@ -27,23 +27,23 @@ module _ (family : Family) (n m k : ℕ) (e : Expansion) (f : ℕ → ℕ) (hn :
   few : e .literals < 10000
   few = omega (arith, minimal .literals-counted, literals-lt n (at (e .coefficients)) hn)
 
-  answer-given : ((t : ℕ) → t < 2 ^ n → at (e .coefficients) t < 2 ^ m) → (p : ℕ) → p < 2 ^ n → listingValue (listing family n m k e) p ≡ f p
+  answer-given : e .inverted < 2 ^ m → ((t : ℕ) → t < 2 ^ n → at (e .coefficients) t < 2 ^ m) → (p : ℕ) → p < 2 ^ n → listingValue (listing family n m k e) p ≡ f p
   unfolding listing w
-  answer-given small p h = listing-value family (numbersOf n m k e) n m w (at (e .coefficients)) small p ∙ minimal .answer .gives p h
+  answer-given mask small p h = listing-value family (numbersOf n m k e) (e .inverted) n m w (at (e .coefficients)) mask small p ∙ minimal .answer .gives p h
 
   counts-products : listingProducts (listing family n m k e) ≡ e .products
   unfolding listing w
-  counts-products = listing-products family (numbersOf n m k e) n m w (at (e .coefficients)) ∙ sym (minimal .products-counted)
+  counts-products = listing-products family (numbersOf n m k e) (e .inverted) n m w (at (e .coefficients)) ∙ sym (minimal .products-counted)
 
   counts-literals : listingLiterals (listing family n m k e) ≡ e .literals
   unfolding listing w
-  counts-literals = listing-literals family (numbersOf n m k e) n m w (at (e .coefficients)) ∙ sym (minimal .literals-counted)
+  counts-literals = listing-literals family (numbersOf n m k e) (e .inverted) n m w (at (e .coefficients)) ∙ sym (minimal .literals-counted)
 
   -- demand 3
-  pub answer-listed : ((t : ℕ) → t < 2 ^ n → at (e .coefficients) t < 2 ^ m) → IsListing n family (Block k) f (listing family n m k e)
-  answer-listed small =
+  pub answer-listed : e .inverted < 2 ^ m → ((t : ℕ) → t < 2 ^ n → at (e .coefficients) t < 2 ^ m) → IsListing n family (Block k) f (listing family n m k e)
+  answer-listed mask small =
       record {
-        gives = answer-given small;
+        gives = answer-given mask small;
         products-stated = stated-products family n m k e answer-listable (omega arith) few ∙ sym counts-products;
         literals-stated = stated-literals family n m k e answer-listable (omega arith) few ∙ sym counts-literals;
         cheapest =

@@ -1,6 +1,6 @@
--- The longest listing. A record within its limits has a listing of at most 5,916 bytes and those of its first word (`listing-most`). The listing of
--- an answer has at most 5,912 and those of its first word (`listing-longest`), 5,916 with `form` and 5,917 with `form2`: where all 256 terms are
--- products, every rival costs as much, so that M and i are the least there are.
+-- The longest listing. A record within its limits has a listing of at most 5,929 bytes and those of its first word (`listing-most`). The listing of
+-- an answer has at most 5,904 and those of its first word (`listing-longest`), 5,908 with `form` and 5,909 with `form2`: an answer's constant is in its
+-- mask, so that it has at most 255 products, and where it has as many, its mixed set is the least there is.
 use mathlib.Core.Bool.{Bool, true, false, cond}
 use mathlib.Core.List.{[], _∷_}
 use mathlib.Core.Path.{_≡_, refl}
@@ -17,7 +17,7 @@ use Rattle.expansions.specs.Costs.{products}
 use Rattle.search.proofs.expansion.Answer.{Answered}
 use Rattle.search.specs.declared.expansion.Expansion.{Expansion}
 use Rattle.expansions.proofs.Costs.{products-le}
-use Rattle.search.proofs.expansion.Full.{full-least}
+use Rattle.search.proofs.expansion.Full.{answer-products-lt, full-least}
 use Rattle.listings.specs.Listing.{digitCount, formWord, listing}
 use Rattle.listings.specs.inner.Lengths.{digitsOf}
 use Rattle.listings.proofs.Lengths.{listingLength, length-listing}
@@ -46,14 +46,14 @@ module _ (family : Family) (n m k : ℕ) (e : Expansion) (hn : n ≤ 8) (hm : m 
       omega (arith, digitCount-one n (omega arith), digitCount-one m (omega arith), digitCount-one k hk, digitCount-three (e .products) (omega arith), digitCount-in (e .literals))
 
   length-le : (d p : ℕ) → digitCount (e .mixed) + digitCount (e .fixed) ≤ d → products n (at (e .coefficients)) ≤ p
-      → length (listing family n m k e) ≤ 22 + d + p * 23 + length (formWord family)
+      → length (listing family n m k e) ≤ 35 + d + p * 23 + length (formWord family)
   unfolding listingLength
   length-le d p h l =
       let terms : products n (at (e .coefficients)) * (5 + n + 1 + m + 1) ≤ p * 23 = mul-le-mul l (omega arith) in
       rw (length-listing family n m k e) (omega (arith, digits-le d h))
 
 pub listing-most : (family : Family) (n m k : ℕ) (e : Expansion) → n ≤ 8 → m ≤ 8 → k < 10 → e .mixed < 256 → e .fixed < 256 → e .products ≤ 256
-    → length (listing family n m k e) ≤ 5916 + length (formWord family)
+    → length (listing family n m k e) ≤ 5929 + length (formWord family)
 listing-most family n m k e hn hm hk M i few =
     let most : products n (at (e .coefficients)) ≤ 256 = omega (arith, products-le n (at (e .coefficients)), pow-mono {i = n} {j = 8} hn) in
     length-le family n m k e hn hm hk few 6 256 (omega (arith, digitCount-three (e .mixed) (omega arith), digitCount-three (e .fixed) (omega arith))) most
@@ -61,22 +61,23 @@ listing-most family n m k e hn hm hk M i few =
 -- ---- the answer's listing
 
 module _ (family : Family) (n m k : ℕ) (e : Expansion) (f : ℕ → ℕ) (hn : n ≤ 8) (hm : m ≤ 8) (hk : k ≤ 3) (minimal : Answered family n k f e) where
-  pub listing-longest : k ≤ n → length (listing family n m k e) ≤ 5912 + length (formWord family)
-  listing-longest le = go (ltb (e .products) 256) refl where
+  pub listing-longest : k ≤ n → ((p : ℕ) → p < 2 ^ n → f p < 2 ^ 8) → length (listing family n m k e) ≤ 5904 + length (formWord family)
+  listing-longest le bytes = go (ltb (e .products) 255) refl where
     size : 2 ^ n ≤ 256
     size = pow-mono {i = n} {j = 8} hn
 
-    few : e .products ≤ 256
-    few = omega (arith, size, minimal .products-counted, products-le n (at (e .coefficients)))
+    few : e .products ≤ 255
+    few = omega (arith, size, answer-products-lt family n k f _ _ _ _ _ _ _ hn le bytes minimal)
 
-    go : (b : Bool) → ltb (e .products) 256 ≡ b → length (listing family n m k e) ≤ 5912 + length (formWord family)
+    fixed : digitCount (e .fixed) ≤ 3
+    fixed = digitCount-three (e .fixed) (omega (arith, size, minimal .answer .member .fixed))
+
+    go : (b : Bool) → ltb (e .products) 255 ≡ b → length (listing family n m k e) ≤ 5904 + length (formWord family)
     go true h =
         let mixed : digitCount (e .mixed) ≤ 3 = digitCount-three (e .mixed) (omega (arith, size, minimal .answer .member .mask)) in
-        let fixed : digitCount (e .fixed) ≤ 3 = digitCount-three (e .fixed) (omega (arith, size, minimal .answer .member .fixed)) in
-        let fewer : products n (at (e .coefficients)) ≤ 255 = omega (arith, ltb-true (e .products) 256 h, minimal .products-counted) in
-        omega (arith, length-le family n m k e hn hm (omega arith) few 6 255 (omega arith) fewer)
+        let fewer : products n (at (e .coefficients)) ≤ 254 = omega (arith, ltb-true (e .products) 255 h, minimal .products-counted) in
+        omega (arith, length-le family n m k e hn hm (omega arith) (omega (arith, few)) 6 254 (omega (arith, fixed)) fewer)
     go false h =
-        let least = full-least family n k f _ _ _ _ _ _ le minimal (omega (arith, size, ltb-false (e .products) 256 h)) in
-        let mixed : digitCount (e .mixed) ≡ 1 = digitCount-one (e .mixed) (omega (arith, least .0, pow-mono {i = k} {j = 3} hk)) in
-        let fixed : digitCount (e .fixed) ≡ 1 = digitCount-one (e .fixed) (omega (arith, least .1)) in
-        length-le family n m k e hn hm (omega arith) few 2 256 (omega arith) (omega (arith, few, minimal .products-counted))
+        let least = full-least family n k f _ _ _ _ _ _ _ hn le bytes minimal (omega (arith, size, ltb-false (e .products) 255 h)) in
+        let mixed : digitCount (e .mixed) ≡ 1 = digitCount-one (e .mixed) (omega (arith, least, pow-mono {i = k} {j = 3} hk)) in
+        length-le family n m k e hn hm (omega arith) (omega (arith, few)) 4 255 (omega (arith, fixed)) (omega (arith, few, minimal .products-counted))

@@ -1,5 +1,5 @@
 -- The listing of an expansion, byte by byte. Document 01, "Text in, listing out": "A listing .. is: `form` ..; one line for each product ..; `end`."
--- Document 02, W-203: the listing of a `table2` text begins `form2`.
+-- Document 02, W-203: the listing of a `table2` text begins `form2`; W-205: "a `form` or `form2` listing gains a second line, `inv` and m characters".
 use mathlib.Core.Bool.{cond}
 use mathlib.Core.List.{List, [], _∷_, _++_, map}
 use Prim.Native.Nat.{ℕ, zero, suc, _+_, _/_, _%_, _^_}
@@ -71,6 +71,11 @@ formWord Two = bytes "form2"
 unfoldable pub formLine : Family → List ℕ → List ℕ
 formLine family numbers = line (formWord family) (map decimal numbers)
 
+-- "a second line, `inv` and m characters", of the inversion mask v, "bit o for output o": the characters are those of outputs, a `1` where the output
+-- is inverted
+unfoldable pub invLine : ℕ → ℕ → List ℕ
+invLine m v = line (bytes "inv") (outputBytes m v ∷ [])
+
 -- "`term`, cube, outputs": the cube x, with the coefficient c
 unfoldable pub cubeLine : ℕ → List ℕ → ℕ → List ℕ
 cubeLine m x c = line (bytes "term") (x ∷ outputBytes m c ∷ [])
@@ -96,14 +101,16 @@ productLines n m M i φ c = termLines n m (polarity n M i φ) c (2 ^ n)
 abbrev pub printedCubes : ℕ → (ℕ → ℕ) → (ℕ → ℕ) → List (List ℕ)
 printedCubes n w c = overNonzero (λ t. cube n t (w t) ∷ []) c (2 ^ n)
 
--- a whole listing: its first line, the lines of the products among 2 ^ n terms, and "`end`"
+-- a whole listing: what stands before its products, the lines of the products among 2 ^ n terms, and "`end`"
 abbrev pub listingAfter : List ℕ → ℕ → ℕ → (ℕ → List ℕ) → (ℕ → ℕ) → List ℕ
 listingAfter first n m x c = first ++ cubeLines m x c (2 ^ n) ++ line (bytes "end") []
 
--- a whole listing of a family with these numbers on its first line, of n inputs and m outputs: each term t has the polarity w t and the coefficient c t
-unfoldable pub listingWith : Family → List ℕ → ℕ → ℕ → (ℕ → ℕ) → (ℕ → ℕ) → List ℕ
-listingWith family numbers n m w c = listingAfter (formLine family numbers) n m (λ t. cube n t (w t)) c
+-- a whole listing of a family with these numbers on its first line and the inversion mask v on its second, of n inputs and m outputs: each term t has
+-- the polarity w t and the coefficient c t
+unfoldable pub listingWith : Family → List ℕ → (v n m : ℕ) → (ℕ → ℕ) → (ℕ → ℕ) → List ℕ
+listingWith family numbers v n m w c = listingAfter (formLine family numbers ++ invLine m v) n m (λ t. cube n t (w t)) c
 
 -- the whole listing of the expansion e, of n inputs, m outputs and k mixed inputs, for a part of the family
 unfoldable pub listing : Family → ℕ → ℕ → ℕ → Expansion → List ℕ
-listing family n m k e = listingWith family (numbersOf n m k e) n m (polarity n (e .mixed) (e .fixed) (at (e .blocks))) (at (e .coefficients))
+listing family n m k e =
+    listingWith family (numbersOf n m k e) (e .inverted) n m (polarity n (e .mixed) (e .fixed) (at (e .blocks))) (at (e .coefficients))

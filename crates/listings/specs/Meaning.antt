@@ -1,4 +1,4 @@
--- What a listing means, from its bytes alone. Document 01, "Text in, listing out".
+-- What a listing means, from its bytes alone. Document 01, "Text in, listing out", and document 02, W-205.
 use mathlib.Core.Path.{_≡_}
 use mathlib.Core.Bool.{Bool, true, cond, _&&_}
 use mathlib.Core.List.{List, [], _∷_, _++_, map}
@@ -60,9 +60,18 @@ overLines op none g (l ∷ ls) = op (g l) (overLines op none g ls)
 unfoldable pub overTerms : {A : Type 0} → (A → A → A) → A → (List ℕ → List ℕ → A) → List ℕ → A
 overTerms op none g s = overLines op none (ofTerm none g) (linesOf s)
 
--- "a listing gives at each point the exclusive OR of the outputs on the `term` lines whose cube is true there"
+-- the inversion mask that an `inv` line says, and 0 of any other line
+unfoldable pub ofInv : List ℕ → ℕ
+ofInv l = cond (same (field 0 l) (bytes "inv")) (outputsSaid (field 1 l)) 0
+
+-- the outputs that a listing inverts: document 02, W-205, "`inv` and m characters", and none where there is no such line
+unfoldable pub listingInverted : List ℕ → ℕ
+listingInverted s = overLines bitXor 0 ofInv (linesOf s)
+
+-- "a listing gives at each point the exclusive OR of the outputs on the `term` lines whose cube is true there", and document 02, W-205: "then inverted
+-- where marked"
 unfoldable pub listingValue : List ℕ → ℕ → ℕ
-listingValue s p = overTerms bitXor 0 (λ cube outputs. only (cubeTrue cube p) (outputsSaid outputs)) s
+listingValue s p = bitXor (overTerms bitXor 0 (λ cube outputs. only (cubeTrue cube p) (outputsSaid outputs)) s) (listingInverted s)
 
 -- the number of `term` lines
 unfoldable pub listingProducts : List ℕ → ℕ

@@ -10,7 +10,7 @@ use lib.ListN.{length, take, drop}
 use lib.Seq.{take-append-seam}
 use Rattle.numbers.specs.Bytes.{at}
 use Rattle.search.specs.Expansion.{answerExpansion}
-use Rattle.search.proofs.expansion.Answer.{answerExpansion-is, expansion-coefficients-lt}
+use Rattle.search.proofs.expansion.Answer.{answerExpansion-is, expansion-coefficients-lt, expansion-inverted-lt}
 use Rattle.expansions.specs.declared.families.Family.{Family}
 use Rattle.expansions.specs.declared.families.Family.the-variants.{One, Two}
 use Rattle.expansions.specs.declared.kinds.Kind.{Kind}
@@ -26,9 +26,11 @@ use Rattle.table_texts.specs.Accepted.{Accepted}
 use Rattle.table_texts.specs.Read.{Reading, given, reading, standsFor}
 use Rattle.text.specs.Compile.{kindListing, answerListing, compiled, bufferAfter, Compile}
 use Rattle.listings.specs.Meaning.{IsListing}
+use Rattle.table_texts.proofs.Design.{table-sized}
 use Rattle.table_texts.proofs.read.Accepted.{reading-accepted, reads-refused}
 use Rattle.listings.proofs.ListedAnswers.{answer-listed}
 use Rattle.listings.proofs.Kronecker.{kronecker-listed}
+use Rattle.text.proofs.compile.Tables.{table-bytes}
 
 -- ---- the listing of the answer
 
@@ -37,9 +39,10 @@ unfolding answerListing
 answer-listing d table a = go (d .family) (d .kind) (a .sized .mixed) (a .sized .family) where
   go : (F : Family) (x : Kind) → KindSized (d .n) x → KindFor F x → IsListing (d .n) F x (at table) (kindListing F (d .n) (d .m) x table)
   go F (Block k) s _ =
-      let minimal = answerExpansion-is F (d .n) k (at table) (a .sized .inputs .1) (s .1) in
+      let minimal = answerExpansion-is F (d .n) k (at table) (a .sized .inputs .1) (s .1) (table-bytes (d .n) (d .m) table (table-sized d (a .sized)) (a .table)) in
+      let mask = expansion-inverted-lt F (d .n) k (at table) (a .sized .inputs .1) (d .m) (s .1) (λ p h. a .table .small p) in
       let small = expansion-coefficients-lt F (d .n) k (at table) (a .sized .inputs .1) (d .m) (s .1) (λ p h. a .table .small p) in
-      answer-listed F (d .n) (d .m) k (answerExpansion F (d .n) k (at table)) (at table) (a .sized .inputs .1) (a .sized .outputs .1) (s .0) minimal
+      answer-listed F (d .n) (d .m) k (answerExpansion F (d .n) k (at table)) (at table) (a .sized .inputs .1) (a .sized .outputs .1) (s .0) minimal mask
       (λ t l. small t)
   go One Kronecker s _ =
       let minimal = answerKronecker-is (d .n) (at table) (a .sized .inputs .1) in

@@ -72,9 +72,14 @@ module _ (n m : ℕ) (table : List ℕ) (s : TableSized n m) (t : Table n m tabl
   unfolding part
   searched-kind = searched-kronecker n m part s part-long (same-test (allBelow (2 ^ m) part) true (λ t. tt) (λ t. part-clean)) ∙ answerKronecker-ext n (at part) (at table) part-at
 
+  -- m outputs, of which there are at most eight, are a byte
+  pub table-bytes : (p : ℕ) → p < 2 ^ n → at table p < 2 ^ 8
+  table-bytes p h = omega (arith, t .small p, pow-mono {i = m} {j = 8} (s .outputs .1))
+
   pub block-listable : (F : Family) (k : ℕ) → Sized n m k → Listable n m (answerExpansion F n k (at table))
   block-listable F k z =
-      answer-listable F n m k _ (at table) (s .inputs .1) (s .outputs .1) (z .mixed .0) (answerExpansion-is F n k (at table) (s .inputs .1) (z .mixed .1))
+      answer-listable F n m k _ (at table) (s .inputs .1) (s .outputs .1) (z .mixed .0)
+      (answerExpansion-is F n k (at table) (s .inputs .1) (z .mixed .1) table-bytes)
 
   pub kind-listable : KroneckerListable n m (answerKronecker n (at table))
   kind-listable =

@@ -25,6 +25,7 @@ use Rattle.writing.specs.Put.{Put}
 use Rattle.listings.specs.Meaning.{firstNumbers, IsListing}
 use Rattle.text.specs.Compile.{kindListing, answerListing, compiled, bufferAfter, Compile}
 use Rattle.text.specs.Print.{judged, refusedLine, printedFor, printed, Print}
+use Rattle.table_texts.proofs.Design.{table-sized}
 use Rattle.table_texts.proofs.read.Accepted.{reading-accepted}
 use Rattle.listings.proofs.Lengths.{length-formWord}
 use Rattle.listings.proofs.Longest.{listing-longest}
@@ -32,6 +33,7 @@ use Rattle.listings.proofs.Kronecker.{kronecker-longest}
 use Rattle.kronecker.proofs.expansion.Answer.{answerKronecker-is}
 use Rattle.table_texts.proofs.Length.{accepted-text-first}
 use Rattle.writing.proofs.Puts.{put-front}
+use Rattle.text.proofs.compile.Tables.{table-bytes}
 use Rattle.text.proofs.compile.Listings.{answer-listing}
 use Rattle.text.proofs.print.Refusals.{refusal-said, refused-line-le}
 
@@ -42,8 +44,9 @@ unfolding answerListing
 listing-within d table a = go (d .kind) (a .sized .mixed) where
   go : (x : Kind) → KindSized (d .n) x → length (kindListing (d .family) (d .n) (d .m) x table) ≤ 5919
   go (Block k) s =
+      let bytes = table-bytes (d .n) (d .m) table (table-sized d (a .sized)) (a .table) in
       let most = listing-longest (d .family) (d .n) (d .m) k (answerExpansion (d .family) (d .n) k (at table)) (at table) (a .sized .inputs .1) (a .sized .outputs .1) (s .0)
-      (answerExpansion-is (d .family) (d .n) k (at table) (a .sized .inputs .1) (s .1)) (s .1) in
+      (answerExpansion-is (d .family) (d .n) k (at table) (a .sized .inputs .1) (s .1) bytes) (s .1) bytes in
       omega (arith, most, length-formWord (d .family))
   go Kronecker s =
       kronecker-longest (d .n) (d .m) _ _ _ _ (a .sized .inputs .1) (a .sized .outputs .1)

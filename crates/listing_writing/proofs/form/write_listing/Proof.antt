@@ -9,7 +9,7 @@ use Rattle.listings.specs.Listing.{cube, numbersOf, formWord, productLines, lis
 use Rattle.listings.proofs.Characters.{length-cube}
 use Rattle.listings.specs.inner.Lengths.{digitsOf}
 use Rattle.writing.proofs.Puts.{put-then, put-length}
-use Rattle.listings.proofs.Lengths.{digitsOf-le, length-formWord, length-formLine, length-products, listing-stated, products-small}
+use Rattle.listings.proofs.Lengths.{digitsOf-le, length-formWord, length-formLine, length-invLine, length-products, listing-stated, products-small}
 use Rattle.listing_writing.proofs.Answered.{listing-written, listing-short}
 use native.Mathlib.Omega.{arith}
 use Rattle.listing_writing.proofs.form.write_listing.Statement.{statement}
@@ -19,7 +19,7 @@ use Rattle.listing_writing.proofs.form.write_listing.Tie as tie
 room :
     (c : tie.Else1) →
     let a = c .before .before .before .before .before .before .args in
-    12 + length (formWord (a .family)) + digitsOf (numbersOf (a .n) (a .m) (a .k) (a .e)) + a .e .products * (a .n + a .m + 7) ≤ length (a .out .now)
+    17 + length (formWord (a .family)) + a .m + digitsOf (numbersOf (a .n) (a .m) (a .k) (a .e)) + a .e .products * (a .n + a .m + 7) ≤ length (a .out .now)
 room c = omega (arith, c .if1 .left, c .before .before .digits-of .ensures, c .before .before .before .before .word-length .ensures)
 
 -- the lines of the products are as long as the record's count of them says
@@ -39,8 +39,13 @@ few s =
 word-length-requires : tie.Need-word-length-requires
 word-length-requires c κs = search needs
 
-add-length : tie.Need-add-length
-add-length c = omega (arith, c .word-length .ensures, length-formWord (c .before .before .args .family))
+add-frame : tie.Need-add-frame
+add-frame c = omega (arith, c .word-length .ensures, length-formWord (c .before .before .args .family))
+
+add-frame-2 : tie.Need-add-frame-2
+add-frame-2 c =
+    let s = c .before .before in
+    omega (arith, c .word-length .ensures, length-formWord (s .args .family), s .pre .outputs)
 
 slice-aggregate-digits-of : tie.Need-slice-aggregate-digits-of
 slice-aggregate-digits-of c = search needs
@@ -48,27 +53,28 @@ slice-aggregate-digits-of c = search needs
 digits-of-requires : tie.Need-digits-of-requires
 digits-of-requires c κs = search needs
 
-add-length-2 : tie.Need-add-length-2
-add-length-2 c =
-    let a = c .before .before .before .before .args in
+add-length : tie.Need-add-length
+add-length c =
+    let s = c .before .before .before .before in
+    let a = s .args in
     let word = c .before .before .word-length .ensures in
-    omega (arith, c .digits-of .ensures, digitsOf-le (numbersOf (a .n) (a .m) (a .k) (a .e)), word, length-formWord (a .family))
+    omega (arith, c .digits-of .ensures, digitsOf-le (numbersOf (a .n) (a .m) (a .k) (a .e)), word, length-formWord (a .family), s .pre .outputs)
+
+add-length-2 : tie.Need-add-length-2
+add-length-2 c = search needs
 
 add-length-3 : tie.Need-add-length-3
 add-length-3 c = search needs
 
-add-length-4 : tie.Need-add-length-4
-add-length-4 c = search needs
-
 mul-length : tie.Need-mul-length
 mul-length c = omega (arith, few (c .before .before .before .before .before))
 
-add-length-5 : tie.Need-add-length-5
-add-length-5 c =
+add-length-4 : tie.Need-add-length-4
+add-length-4 c =
     let s = c .before .before .before .before .before in
     let a = s .args in
     let word = c .before .before .before .word-length .ensures in
-    omega (arith, c .before .digits-of .ensures, digitsOf-le (numbersOf (a .n) (a .m) (a .k) (a .e)), word, length-formWord (a .family), few s)
+    omega (arith, c .before .digits-of .ensures, digitsOf-le (numbersOf (a .n) (a .m) (a .k) (a .e)), word, length-formWord (a .family), s .pre .outputs, few s)
 
 returns : tie.Need-returns
 returns c =
@@ -87,27 +93,54 @@ write-form-requires c κs =
     let a = r .before .before .before .before .before .before .args in
     (omega arith, omega (arith, room r, length-formLine (a .family) (numbersOf (a .n) (a .m) (a .k) (a .e))))
 
-write-terms-requires : tie.Need-write-terms-requires
-write-terms-requires c κs =
-    let p = c .before .before .before .before .before in
+write-inv-requires : tie.Need-write-inv-requires
+write-inv-requires c κs =
+    let p = c .before .before .before in
     let r = p .before .before .before .before .before in
     let s = r .before .before .before .before .before .before in
     let a = s .args in
-    let f = p .write-form .ensures in (
+    let f = p .write-form .ensures in
+    (s .pre .outputs, omega (arith, room r, f .to, put-length f, length-formLine (a .family) (numbersOf (a .n) (a .m) (a .k) (a .e))))
+
+write-terms-requires : tie.Need-write-terms-requires
+write-terms-requires c κs =
+    let q = c .before .before .before .before .before in
+    let p = q .before .before .before .before in
+    let r = p .before .before .before .before .before in
+    let s = r .before .before .before .before .before .before in
+    let a = s .args in
+    let f = p .write-form .ensures in
+    let g = q .write-inv .ensures in
+    let long = length-formLine (a .family) (numbersOf (a .n) (a .m) (a .k) (a .e)) in (
       (s .pre .inputs, s .pre .outputs, s .pre .mixed, s .pre .fixed),
-      omega (arith, room r, f .to, put-length f, length-formLine (a .family) (numbersOf (a .n) (a .m) (a .k) (a .e)), lines s),
+      omega (arith, room r, f .to, put-length f, long, g .to, put-length g, length-invLine (a .m) (a .e .inverted), lines s),
     )
 
 write-end-requires : tie.Need-write-end-requires
 write-end-requires c κs =
     let t = c .before .before .before in
-    let p = t .before .before .before .before .before .before in
+    let q = t .before .before .before .before .before .before in
+    let p = q .before .before .before .before in
     let r = p .before .before .before .before .before in
     let s = r .before .before .before .before .before .before in
     let a = s .args in
     let f = p .write-form .ensures in
+    let g = q .write-inv .ensures in
     let terms = t .write-terms .ensures in
-    omega (arith, room r, f .to, put-length f, length-formLine (a .family) (numbersOf (a .n) (a .m) (a .k) (a .e)), terms .to, put-length terms, lines s)
+    let long = length-formLine (a .family) (numbersOf (a .n) (a .m) (a .k) (a .e)) in
+    omega (
+      arith,
+      room r,
+      f .to,
+      put-length f,
+      long,
+      g .to,
+      put-length g,
+      length-invLine (a .m) (a .e .inverted),
+      terms .to,
+      put-length terms,
+      lines s,
+    )
 
 same-length : tie.Need-same-length
 same-length c = search needs
@@ -117,30 +150,34 @@ unfolding listing listingWith
 returns-2 c =
     let d = c .before .before in
     let t = d .before .before .before .before in
-    let p = t .before .before .before .before .before .before in
+    let q = t .before .before .before .before .before .before in
+    let p = q .before .before .before .before in
     let r = p .before .before .before .before .before in
     let s = r .before .before .before .before .before .before in
     let a = s .args in
     let bytes = listing (a .family) (a .n) (a .m) (a .k) (a .e) in
     let fits : length bytes ≤ length (a .out .now) = omega (arith, room r, listing-stated (a .family) (a .n) (a .m) (a .k) (a .e) (s .pre)) in
-    listing-written bytes _ _ _ fits (put-then (put-then (p .write-form .ensures) (t .write-terms .ensures)) (d .write-end .ensures))
+    listing-written bytes _ _ _ fits
+    (put-then (put-then (put-then (p .write-form .ensures) (q .write-inv .ensures)) (t .write-terms .ensures)) (d .write-end .ensures))
 
 pub write-listing-spec : {M : Type 1} → statement M
 write-listing-spec =
     tie.close
     (tie.spec
     word-length-requires
-    add-length
+    add-frame
+    add-frame-2
     slice-aggregate-digits-of
     digits-of-requires
+    add-length
     add-length-2
     add-length-3
-    add-length-4
     mul-length
-    add-length-5
+    add-length-4
     returns
     slice-aggregate-write-form
     write-form-requires
+    write-inv-requires
     write-terms-requires
     write-end-requires
     same-length

@@ -1,0 +1,118 @@
+-- What a `form` or a `form2` listing means, read from its bytes alone: at every point the value of the expansion, inverted where the mask says
+-- (`listing-value`, `listing-inverted`), as many products and literals as it has (`listing-products`, `listing-literals`), their cubes (`listing-cubes`), and
+-- the numbers of its record on the first line (`listing-numbers`).
+use mathlib.Core.Bool.{Bool, false}
+use mathlib.Core.List.{List, [], _∷_, _++_, map, append-assoc, append-nil}
+use mathlib.Core.Path.{_≡_, refl, ap, ap₂, _∙_}
+use Prim.Native.Nat.{ℕ, _+_, _-_, _^_, _≤_, _<_}
+use native.Mathlib.Omega.{arith}
+use lib.Bits.{bitXor, xor-zero-l}
+use lib.ListN.{length, getD}
+use lib.Pow.{pow-mono}
+use Rattle.numbers.specs.Bytes.{at}
+use Rattle.numbers.specs.Nonzero.{overNonzero}
+use Rattle.numbers.specs.Tests.{only}
+use Rattle.algebra.specs.Terms.{value}
+use Rattle.numbers.proofs.Nonzero.{nonzero-none, nonzero-some}
+use Rattle.numbers.proofs.Sums.{fold-ext}
+use Rattle.expansions.specs.declared.families.Family.{Family}
+use Rattle.expansions.specs.declared.families.Family.the-variants.{One, Two}
+use Rattle.expansions.specs.Costs.{counted, products, literals}
+use Rattle.expansions.specs.Members.{polarity}
+use Rattle.search.specs.declared.expansion.Expansion.{Expansion}
+use Rattle.expansions.proofs.Costs.{products-le}
+use Rattle.listings.specs.Parts.{bytes, same}
+use Rattle.listings.specs.Listing.{tabbed, line, decimal, cube, outputBytes, numbersOf, formWord, formLine, invLine, cubeLines, printedCubes, listingWith, listing}
+use Rattle.listings.specs.inner.Listable.{Listable}
+use Rattle.listings.specs.Meaning.{outputsSaid, listingInverted, listingValue, listingProducts, listingLiterals, listingCubes, firstNumbers, statedProducts, statedLiterals}
+use Rattle.listings.proofs.Cubes.{cube-holds, cube-literals, outputs-said}
+use Rattle.listings.proofs.Meaning.{plain-numbers, plain-cube, plain-outputs, plain-form, plain-inv, Heading, heading-line, heading-append, over-terms}
+use Rattle.listings.proofs.Meaning.{cubes-inverted, cubes-value, cubes-products, cubes-literals, Small, numbers-said, heading-numbers}
+
+-- ---- what stands before the products
+
+-- the first word is neither `term` nor `inv`
+other-form : (family : Family) → (same (formWord family) (bytes "term") ≡ false) × (same (formWord family) (bytes "inv") ≡ false)
+unfolding formWord bytes same
+other-form One = (refl, refl)
+other-form Two = (refl, refl)
+
+-- the first two lines, without their ends
+abbrev formLines : Family → List ℕ → ℕ → ℕ → List (List ℕ)
+formLines family numbers m v = (formWord family ++ tabbed (map decimal numbers)) ∷ (bytes "inv" ++ tabbed (outputBytes m v ∷ [])) ∷ []
+
+-- they are no lines `term`, and invert the outputs that the second one says
+form-heading : (family : Family) (numbers : List ℕ) (m v : ℕ)
+    → Heading (formLine family numbers ++ invLine m v) (formLines family numbers m v) (outputsSaid (outputBytes m v))
+unfolding formLine invLine bytes same
+form-heading family numbers m v =
+    let form = heading-line (formWord family) (map decimal numbers) (plain-form family) (plain-numbers numbers) (other-form family .0) in
+    let inv = heading-line (bytes "inv") (outputBytes m v ∷ []) plain-inv (plain-outputs m v, tt) refl in
+    rw (other-form family .1, xor-zero-l (outputsSaid (outputBytes m v))) at (heading-append _ _ _ _ _ _ form inv)
+
+-- ---- the value at a point, the products, the literals and the cubes
+
+module _ (family : Family) (numbers : List ℕ) (v n m : ℕ) (w c : ℕ → ℕ) where
+  x : ℕ → List ℕ
+  x t = cube n t (w t)
+
+  -- the cubes, one for each product
+  pub listing-cubes : listingCubes (listingWith family numbers v n m w c) ≡ printedCubes n w c
+  unfolding listingCubes overNonzero listingWith x
+  listing-cubes =
+      over-terms _ _ _ (form-heading family numbers m v) n m x c (λ t. plain-cube n t (w t)) _++_ [] append-assoc (λ a. refl) append-nil (λ x outputs. x ∷ []) cubes refl
+      (λ t z. ap (λ (l : List (List ℕ)). cubes t ++ l) (nonzero-none (c t) (cube n t (w t) ∷ []) z) ∙ append-nil (cubes t))
+      (λ t z. ap (λ (l : List (List ℕ)). cubes t ++ l) (nonzero-some (c t) (cube n t (w t) ∷ []) z))
+    where
+      cubes : ℕ → List (List ℕ)
+      cubes N = overNonzero (λ t. cube n t (w t) ∷ []) c N
+
+  pub listing-inverted : v < 2 ^ m → listingInverted (listingWith family numbers v n m w c) ≡ v
+  unfolding listingWith x
+  listing-inverted h = cubes-inverted _ _ _ (form-heading family numbers m v) n m x c (λ t. plain-cube n t (w t)) ∙ outputs-said m v h
+
+  pub listing-value : v < 2 ^ m → ((t : ℕ) → t < 2 ^ n → c t < 2 ^ m) → (p : ℕ) → listingValue (listingWith family numbers v n m w c) p ≡ bitXor (value n w c p) v
+  unfolding value listingWith x
+  listing-value h small p =
+      cubes-value _ _ _ (form-heading family numbers m v) n m x c (λ t. plain-cube n t (w t)) small p
+      ∙ ap₂ bitXor (fold-ext bitXor (2 ^ n) _ _ (λ t l. ap (λ (b : Bool). only b (c t)) (cube-holds n t (w t) p l))) (outputs-said m v h)
+
+  pub listing-products : listingProducts (listingWith family numbers v n m w c) ≡ products n c
+  unfolding listingWith x
+  listing-products = cubes-products _ _ _ (form-heading family numbers m v) n m x c (λ t. plain-cube n t (w t))
+
+  pub listing-literals : listingLiterals (listingWith family numbers v n m w c) ≡ literals n c
+  unfolding literals listingWith x
+  listing-literals =
+      cubes-literals _ _ _ (form-heading family numbers m v) n m x c (λ t. plain-cube n t (w t))
+      ∙ fold-ext _+_ (2 ^ n) _ _ (λ t l. ap (λ (x : ℕ). counted (c t) x) (cube-literals n t _ l))
+
+-- ---- the numbers of the first line
+
+-- the numbers that a `form` or a `form2` listing states on its first line
+pub listing-numbers : (family : Family) (numbers : List ℕ) (v n m : ℕ) (w c : ℕ → ℕ) → Small numbers → firstNumbers (listingWith family numbers v n m w c) ≡ numbers
+unfolding listingWith formLine
+listing-numbers family numbers v n m w c small =
+    let terms : List ℕ = cubeLines m (λ t. cube n t (w t)) c (2 ^ n) in
+    ap firstNumbers
+    (append-assoc (formLine family numbers ++ invLine m v) terms (line (bytes "end") []) ∙ append-assoc (formLine family numbers) (invLine m v) (terms ++ line (bytes "end") []))
+    ∙ heading-numbers (formWord family) (map decimal numbers) _ (plain-form family) (plain-numbers numbers)
+    ∙ numbers-said numbers small
+
+module _ (family : Family) (n m k : ℕ) (e : Expansion) (f : Listable n m e) (digit : k < 10) (few : e .literals < 10000) where
+  small-numbers : Small (numbersOf n m k e)
+  small-numbers =
+      let size : 2 ^ n ≤ 256 = pow-mono {i = n} {j = 8} (f .inputs) in
+      let most : e .products ≤ 2 ^ n = rw (f .counted) (products-le n (at (e .coefficients))) in
+      (omega arith, (omega arith, (omega arith, (omega arith, (omega arith, (omega arith, (few, tt)))))))
+
+  -- n, m, k, M, i, products and literals
+  stated-numbers : firstNumbers (listing family n m k e) ≡ numbersOf n m k e
+  unfolding listing
+  stated-numbers = listing-numbers family (numbersOf n m k e) (e .inverted) n m (polarity n (e .mixed) (e .fixed) (at (e .blocks))) (at (e .coefficients)) small-numbers
+
+  pub stated-products : statedProducts (listing family n m k e) ≡ e .products
+  stated-products = ap (λ (xs : List ℕ). getD xs (length xs - 2) 0) stated-numbers
+
+  pub stated-literals : statedLiterals (listing family n m k e) ≡ e .literals
+  stated-literals = ap (λ (xs : List ℕ). getD xs (length xs - 1) 0) stated-numbers
