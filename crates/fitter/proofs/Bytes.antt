@@ -1,4 +1,4 @@
--- What the bytes of a listing that was read say: its M and i, its cubes, and its value at each point are those of its first line and its rows.
+-- What the bytes of a listing that was read say: its M and i, its cubes, and its value at each point are those of its first line, its mask and its rows.
 use mathlib.Core.List.{List, [], _∷_}
 use mathlib.Core.Path.{_≡_, ap, _∙_}
 use Prim.Native.Nat.{ℕ, _/_, _^_, _<_}
@@ -6,22 +6,23 @@ use native.Mathlib.Omega.{arith}
 use lib.ListN.{getD}
 use Rattle.numbers.specs.Refusals.{Sized}
 use Rattle.numbers.proofs.Shifts.{points-le}
-use Rattle.algebra.specs.Terms.{value}
 use Rattle.expansions.specs.Costs.{products, literals}
 use Rattle.expansions.proofs.Costs.{products-le, literals-lt}
 use Rattle.listings.specs.Listing.{printedCubes}
 use Rattle.listings.specs.Meaning.{listingValue, listingCubes, firstNumbers, statedMixed, statedFixed}
-use Rattle.listings.proofs.Meaning.{Small, listing-numbers, listing-value, listing-cubes}
+use Rattle.listings.proofs.Meaning.{Small}
+use Rattle.listings.proofs.Forms.{listing-numbers, listing-value, listing-cubes}
 use Rattle.membership.specs.Class.{Shown}
 use Rattle.table_texts.specs.declared.sizes.Sizes.{Sizes}
 use Rattle.listing_texts.specs.Listings.{termListing}
 use Rattle.listing_texts.specs.Rows.{coefficientIn, complementedIn}
 use Rattle.lines.proofs.Terms.{TermRows}
+use Rattle.fitter.specs.Differences.{invertedValue}
 
 -- ---- a listing of terms
 
-module _ (z : Sizes) (s : List ℕ) (M i : ℕ) (w c : ℕ → ℕ) (sized : Sized (z .n) (z .m) (z .k)) (hM : M < 10000) (hi : i < 10000)
-    (e : s ≡ termListing z M i w c) where
+module _ (z : Sizes) (s : List ℕ) (v M i : ℕ) (w c : ℕ → ℕ) (sized : Sized (z .n) (z .m) (z .k)) (hM : M < 10000) (hi : i < 10000)
+    (e : s ≡ termListing z v M i w c) where
   numbers-small : Small (z .n ∷ z .m ∷ z .k ∷ M ∷ i ∷ products (z .n) c ∷ literals (z .n) c ∷ [])
   numbers-small =
       let inputs = sized .inputs .1 in
@@ -33,7 +34,7 @@ module _ (z : Sizes) (s : List ℕ) (M i : ℕ) (w c : ℕ → ℕ) (sized : Siz
 
   numbers-stated : firstNumbers s ≡ z .n ∷ z .m ∷ z .k ∷ M ∷ i ∷ products (z .n) c ∷ literals (z .n) c ∷ []
   unfolding termListing
-  numbers-stated = ap firstNumbers e ∙ listing-numbers (z .family) _ (z .n) (z .m) w c numbers-small
+  numbers-stated = ap firstNumbers e ∙ listing-numbers (z .family) _ v (z .n) (z .m) w c numbers-small
 
   pub mixed-stated : statedMixed s ≡ M
   mixed-stated = ap (λ (xs : List ℕ). getD xs 3 0) numbers-stated
@@ -41,14 +42,14 @@ module _ (z : Sizes) (s : List ℕ) (M i : ℕ) (w c : ℕ → ℕ) (sized : Siz
   pub fixed-stated : statedFixed s ≡ i
   fixed-stated = ap (λ (xs : List ℕ). getD xs 4 0) numbers-stated
 
-pub cubes-listed : (z : Sizes) (s : List ℕ) (M i : ℕ) (w c : ℕ → ℕ) → s ≡ termListing z M i w c → listingCubes s ≡ printedCubes (z .n) w c
+pub cubes-listed : (z : Sizes) (s : List ℕ) (v M i : ℕ) (w c : ℕ → ℕ) → s ≡ termListing z v M i w c → listingCubes s ≡ printedCubes (z .n) w c
 unfolding termListing
-cubes-listed z s M i w c e = ap listingCubes e ∙ listing-cubes (z .family) _ (z .n) (z .m) w c
+cubes-listed z s v M i w c e = ap listingCubes e ∙ listing-cubes (z .family) _ v (z .n) (z .m) w c
 
-pub value-listed : (z : Sizes) (s : List ℕ) (M i : ℕ) (w c : ℕ → ℕ) → s ≡ termListing z M i w c → ((t : ℕ) → t < 2 ^ z .n → c t < 2 ^ z .m)
-    → (p : ℕ) → listingValue s p ≡ value (z .n) w c p
+pub value-listed : (z : Sizes) (s : List ℕ) (v M i : ℕ) (w c : ℕ → ℕ) → s ≡ termListing z v M i w c → v < 2 ^ z .m
+    → ((t : ℕ) → t < 2 ^ z .n → c t < 2 ^ z .m) → (p : ℕ) → listingValue s p ≡ invertedValue (z .n) w c v p
 unfolding termListing
-value-listed z s M i w c e small p = ap (λ (b : List ℕ). listingValue b p) e ∙ listing-value (z .family) _ (z .n) (z .m) w c small p
+value-listed z s v M i w c e mask small p = ap (λ (b : List ℕ). listingValue b p) e ∙ listing-value (z .family) _ v (z .n) (z .m) w c mask small p
 
 -- ---- the rows that were read
 

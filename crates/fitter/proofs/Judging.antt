@@ -13,7 +13,6 @@ use Rattle.numbers.specs.Tests.{every}
 use Rattle.numbers.proofs.Shifts.{points-le}
 use Rattle.numbers.proofs.Tables.{at-whole}
 use Rattle.numbers.proofs.Tests.{both-left, both-right}
-use Rattle.algebra.specs.Terms.{value}
 use Rattle.expansions.specs.Answers.{validPair}
 use Rattle.expansions.specs.Least.{Best, nothing, best}
 use Rattle.membership.specs.Class.{legalPair, showsBack, shownPolarity, ofClass}
@@ -27,7 +26,7 @@ use Rattle.listing_texts.specs.Record.{shownExpansion, shownRead, handedUp}
 use Rattle.listing_texts.proofs.Exactness.{listing-read}
 use Rattle.fitter.specs.declared.check.Checked.the-variants.{NotOfClass, Refused}
 use Rattle.fitter.specs.declared.values.Difference.the-variants.{At, Nowhere}
-use Rattle.fitter.specs.Differences.{firstDifference}
+use Rattle.fitter.specs.Differences.{invertedValue, firstDifference}
 use Rattle.fitter.specs.Check.{compared, judged}
 use Rattle.fitter.specs.inner.Differences.{differenceOf}
 use Rattle.fitter.specs.inner.Judging.{judgedRecord}
@@ -56,12 +55,12 @@ found-nowhere (best q) e = let z : _≡_ {A = ℕ} 0 1 = cc in absurd (omega ari
 
 -- ---- the record's bytes
 
-module _ (z : Sizes) (table s : List ℕ) (f : Form) (t : List ℕ) (read : listingReading z s ≡ shown f t) where
+module _ (z : Sizes) (table s : List ℕ) (f : Form) (v : ℕ) (t : List ℕ) (read : listingReading z s ≡ shown f v t) where
   few : 2 ^ z .n ≤ 256
-  few = points-le (z .n) (listing-read z s f t read .sized .inputs .1)
+  few = points-le (z .n) (listing-read z s f v t read .sized .inputs .1)
 
   none-past : (u : ℕ) → 256 ≤ u → at t u ≡ 0
-  none-past u h = listing-read z s f t read .rows .rest u (omega (arith, few))
+  none-past u h = listing-read z s f v t read .rows .rest u (omega (arith, few))
 
   complements-whole : at (tabulate 256 (complementedIn t)) ≡ complementedIn t
   complements-whole = at-whole 256 (complementedIn t) (λ u h. ap (λ (x : ℕ). x / 256) (none-past u h))
@@ -72,13 +71,13 @@ module _ (z : Sizes) (table s : List ℕ) (f : Form) (t : List ℕ) (read : list
   blocks-whole : f .mixed < 2 ^ z .n → at (shownBlocks (z .n) (f .mixed) (complementedIn t)) ≡ shownPolarity (z .n) (f .mixed) (complementedIn t)
   unfolding shownBlocks
   blocks-whole h =
-      let inputs = listing-read z s f t read .sized .inputs .1 in
+      let inputs = listing-read z s f v t read .sized .inputs .1 in
       let size : 2 ^ (z .n - onesIn (z .n) (f .mixed)) ≤ 256 = pow-mono {j = 8} (omega arith) in
       rw (lt-ltb (f .mixed) (2 ^ z .n) h)
       (at-whole 256 (shownPolarity (z .n) (f .mixed) (complementedIn t))
       (λ j l. shown-past (z .n) (onesIn (z .n) (f .mixed)) (f .mixed) (complementedIn t) j refl (omega arith)))
 
-  pub record-shown : judgedRecord z table (shownRead (z .n) f t) ≡ judged z table (shown f t)
+  pub record-shown : judgedRecord z table (shownRead (z .n) f v t) ≡ judged z table (shown f v t)
   unfolding judgedRecord judged shownRead shownExpansion ofClass
   record-shown = go (legalPair (z .n) (z .k) (f .mixed) (f .fixed)) refl where
     go : (b : Bool) → legalPair (z .n) (z .k) (f .mixed) (f .fixed) ≡ b
@@ -87,10 +86,10 @@ module _ (z : Sizes) (table s : List ℕ) (f : Form) (t : List ℕ) (read : list
         && every (2 ^ z .n)
         (showsBack (z .n) (f .mixed) (f .fixed) (at (shownBlocks (z .n) (f .mixed) (complementedIn t))) (at (tabulate 256 (complementedIn t)))
         (at (tabulate 256 (coefficientIn t)))))
-        (compared (firstDifference (z .n) (value (z .n) (at (tabulate 256 (complementedIn t))) (at (tabulate 256 (coefficientIn t)))) (at table)))
+        (compared (firstDifference (z .n) (invertedValue (z .n) (at (tabulate 256 (complementedIn t))) (at (tabulate 256 (coefficientIn t))) v) (at table)))
         NotOfClass
         ≡ cond (b && every (2 ^ z .n) (showsBack (z .n) (f .mixed) (f .fixed) (shownPolarity (z .n) (f .mixed) (complementedIn t)) (complementedIn t) (coefficientIn t)))
-        (compared (firstDifference (z .n) (value (z .n) (complementedIn t) (coefficientIn t)) (at table)))
+        (compared (firstDifference (z .n) (invertedValue (z .n) (complementedIn t) (coefficientIn t) v) (at table)))
         NotOfClass
     go true h = rw (blocks-whole (legal-mixed (z .n) (z .k) (f .mixed) (f .fixed) h), complements-whole, coefficients-whole)
     go false h = refl
@@ -100,10 +99,10 @@ module _ (z : Sizes) (table s : List ℕ) (f : Form) (t : List ℕ) (read : list
 module _ (z : Sizes) (table s : List ℕ) where
   pub record-judged : (x : ListingReading) → listingReading z s ≡ x → handedUp z x .answer ≡ answer.Given → judgedRecord z table (handedUp z x) ≡ judged z table x
   unfolding handedUp
-  record-judged (shown f t) read e = record-shown z table s f t read
+  record-judged (shown f v t) read e = record-shown z table s f v t read
   record-judged (refused number l) read e = let none : _≡_ {A = ℕ} 0 1 = cc in absurd (omega arith)
 
   pub refused-judged : (x : ListingReading) (number l : ℕ) → handedUp z x .answer ≡ answer.Refused number l → Refused number l ≡ judged z table x
   unfolding handedUp shownRead judged
-  refused-judged (shown f t) number l e = let none : _≡_ {A = ℕ} 0 1 = cc in absurd (omega arith)
+  refused-judged (shown f v t) number l e = let none : _≡_ {A = ℕ} 0 1 = cc in absurd (omega arith)
   refused-judged (refused number′ l′) number l e = cc

@@ -1,5 +1,6 @@
 pub mod Differences
 pub mod Bytes
+pub mod Outcomes
 pub mod Answers
 pub mod Judging
 pub mod Printed

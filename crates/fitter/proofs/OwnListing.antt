@@ -2,7 +2,7 @@
 -- where k is a number, is `Same` (`own-same`).
 use mathlib.Core.List.{List}
 use mathlib.Core.Path.{_≡_, refl, ap, _∙_}
-use Prim.Native.Nat.{ℕ, _^_, _≤_}
+use Prim.Native.Nat.{ℕ, _^_, _≤_, _<_}
 use native.Mathlib.Omega.{arith}
 use Rattle.numbers.specs.Bytes.{at}
 use Rattle.numbers.specs.Refusals.{Sized}
@@ -28,7 +28,7 @@ use Rattle.fitter.proofs.Bytes.{mixed-stated, fixed-stated}
 use Rattle.fitter.proofs.Answers.{answers-words}
 
 module _ (z : Sizes) (table : List ℕ) (e : Expansion) (sized : Sized (z .n) (z .m) (z .k)) (r : MemberRecord z e)
-    (gives : Gives (z .n) (e .mixed) (e .fixed) (at (e .blocks)) (at (e .coefficients)) (at table)) where
+    (gives : Gives (z .n) (e .inverted) (e .mixed) (e .fixed) (at (e .blocks)) (at (e .coefficients)) (at table)) where
   abbrev s : List ℕ
   s = listing (z .family) (z .n) (z .m) (z .k) e
 
@@ -40,22 +40,24 @@ module _ (z : Sizes) (table : List ℕ) (e : Expansion) (sized : Sized (z .n) (z
 
   mixed : statedMixed s ≡ e .mixed
   mixed =
-      mixed-stated z s (e .mixed) (e .fixed) w (at (e .coefficients)) sized (omega (arith, few, r .member .mask)) (omega (arith, few, r .member .fixed))
+      mixed-stated z s (e .inverted) (e .mixed) (e .fixed) w (at (e .coefficients)) sized (omega (arith, few, r .member .mask)) (omega (arith, few, r .member .fixed))
       (listing-terms z e sized r)
 
   fixed : statedFixed s ≡ e .fixed
   fixed =
-      fixed-stated z s (e .mixed) (e .fixed) w (at (e .coefficients)) sized (omega (arith, few, r .member .mask)) (omega (arith, few, r .member .fixed))
+      fixed-stated z s (e .inverted) (e .mixed) (e .fixed) w (at (e .coefficients)) sized (omega (arith, few, r .member .mask)) (omega (arith, few, r .member .fixed))
       (listing-terms z e sized r)
 
   pub member-same : judged z table (listingReading z s) ≡ Same
   member-same =
       answers-words z table s sized (judged z table (listingReading z s)) refl .same .1 (
+        e .inverted,
         at (e .blocks),
         at (e .coefficients),
         record {
           member = rw (mixed, fixed) (r .member);
           outputs = λ t h. r .outputs t;
+          mask = r .mask;
           lines = rw (mixed, fixed) (listing-terms z e sized r);
           gives = λ p h. rw (mixed, fixed) (gives p h);
         },
@@ -67,7 +69,8 @@ unfolding checked judgedDesign answerListing
 own-same text z table e =
     let a = reading-accepted text (blockDesign z) table e in
     let sized = block-sized (blockDesign z) (z .k) refl (a .sized) in
-    let minimal = answerExpansion-is (z .family) (z .n) (z .k) (at table) (a .sized .inputs .1) (a .sized .mixed .1) in
+    let bytes : (p : ℕ) → p < 2 ^ z .n → at table p < 2 ^ 8 = λ p h. omega (arith, a .table .small p, points-le (z .m) (a .sized .outputs .1)) in
+    let minimal = answerExpansion-is (z .family) (z .n) (z .k) (at table) (a .sized .inputs .1) (a .sized .mixed .1) bytes in
     ap (λ (x : Reading). checked x (answerListing (blockDesign z) table)) e
     ∙ member-same z table (answerExpansion (z .family) (z .n) (z .k) (at table)) sized (answer-record z (at table) sized (λ p h. a .table .small p))
     (minimal .answer .gives)

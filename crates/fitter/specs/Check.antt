@@ -1,14 +1,13 @@
 -- The fitter's check: the answer for every pair of byte strings; and when each answer is given, in document 02's words, over the listing's
 -- bytes. Document 02, W-201: "Read a listing beside its table text and say: not of the class; differs, with the lowest point that differs; or
 -- same." W-202: "In the fitter's check a `kron` listing is 11, line 1, and a `K` table beside a `form` listing is 12." W-203: "The fitter's check takes
--- both families; a listing of the other family than its table is 12, line 1."
+-- both families; a listing of the other family than its table is 12, line 1." W-205: "The fitter's check reads the line and inverts."
 use mathlib.Core.Bool.{cond}
 use mathlib.Core.List.{List}
 use mathlib.Core.Logic.{_⊎_, _↔_}
 use mathlib.Core.Path.{_≡_}
 use Prim.Native.Nat.{ℕ, _^_, _<_}
 use Rattle.numbers.specs.Bytes.{at}
-use Rattle.algebra.specs.Terms.{value}
 use Rattle.expansions.specs.declared.families.Family.{Family}
 use Rattle.expansions.specs.declared.kinds.Kind.{Kind}
 use Rattle.expansions.specs.declared.kinds.Kind.the-variants.{Block, Kronecker}
@@ -25,7 +24,7 @@ use Rattle.listing_texts.specs.Form.{FormListing}
 use Rattle.listing_texts.specs.Listings.{termListing, Passes}
 use Rattle.listing_texts.specs.Rows.{coefficientIn, complementedIn}
 use Rattle.listing_texts.specs.Read.{ListingReading, shown, refused, listingReading, besideKronecker}
-use Rattle.fitter.specs.Differences.{firstDifference}
+use Rattle.fitter.specs.Differences.{invertedValue, firstDifference}
 use Rattle.fitter.specs.declared.check.Checked.{Checked}
 use Rattle.fitter.specs.declared.check.Checked.the-variants.{Same, Differs, NotOfClass, Refused}
 
@@ -38,9 +37,9 @@ compared (best p) = Differs p
 
 -- "Class is judged before points.": the listing's refusal, or the answer on its rows
 unfoldable pub judged : Sizes → List ℕ → ListingReading → Checked
-judged z table (shown f rows) =
+judged z table (shown f v rows) =
     cond (ofClass (z .n) (z .k) (f .mixed) (f .fixed) (complementedIn rows) (coefficientIn rows))
-    (compared (firstDifference (z .n) (value (z .n) (complementedIn rows) (coefficientIn rows)) (at table)))
+    (compared (firstDifference (z .n) (invertedValue (z .n) (complementedIn rows) (coefficientIn rows) v) (at table)))
     NotOfClass
 judged z table (refused number line) = Refused number line
 
@@ -71,14 +70,16 @@ PrintsCubes z s φ c =
     × (printedCubes (z .n) (polarity (z .n) (statedMixed s) (statedFixed s) φ) c ≡ listingCubes s)
 
 -- "some member of 01's class with the listing's M and i prints just those lines, outputs and all, and gives every output at every point": the
--- bytes are those of the member's listing, its coefficients have "bits m to 7 zero", and it gives the table
-pub record PrintsTable (z : Sizes) (table s : List ℕ) (φ c : ℕ → ℕ) : Type 0 where
+-- bytes are those of the member's listing with the inversion mask v, its coefficients have "bits m to 7 zero" and so has the mask, and it gives the table
+pub record PrintsTable (z : Sizes) (table s : List ℕ) (v : ℕ) (φ c : ℕ → ℕ) : Type 0 where
   pub member : Member (z .n) (z .k) (statedMixed s) (statedFixed s) φ
   pub outputs : (t : ℕ) → t < 2 ^ z .n → c t < 2 ^ z .m
-  pub lines : s ≡ termListing z (statedMixed s) (statedFixed s) (polarity (z .n) (statedMixed s) (statedFixed s) φ) c
-  pub gives : Gives (z .n) (statedMixed s) (statedFixed s) φ c (at table)
+  pub mask : v < 2 ^ z .m
+  pub lines : s ≡ termListing z v (statedMixed s) (statedFixed s) (polarity (z .n) (statedMixed s) (statedFixed s) φ) c
+  pub gives : Gives (z .n) v (statedMixed s) (statedFixed s) φ c (at table)
 
--- p is "the lowest point that differs": read from its own lines, the listing gives the table's byte at each point below p, and another at p
+-- p is "the lowest point that differs": read from its own lines, inverters and all, the listing gives the table's byte at each point below p, and another
+-- at p
 pub record LowestDifference (n : ℕ) (table s : List ℕ) (p : ℕ) : Type 0 where
   pub point : p < 2 ^ n
   pub differs : listingValue s p ≡ at table p → ⊥
@@ -89,7 +90,7 @@ pub record Answers (z : Sizes) (table s : List ℕ) (r : Checked) : Type 0 where
   -- "'Not of the class' is said exactly when no member with the listing's M and i prints those cubes.", of the listings that are not refused
   pub not-of-class : (r ≡ NotOfClass) ↔ (Passes z s × ((φ c : ℕ → ℕ) → PrintsCubes z s φ c → ⊥))
   -- "'Same' is said exactly when some member .. prints just those lines, outputs and all, and gives every output at every point, cheap or not."
-  pub same : (r ≡ Same) ↔ ((φ : ℕ → ℕ) × (c : ℕ → ℕ) × PrintsTable z table s φ c)
+  pub same : (r ≡ Same) ↔ ((v : ℕ) × (φ : ℕ → ℕ) × (c : ℕ → ℕ) × PrintsTable z table s v φ c)
   -- a member prints the cubes, and p is the lowest point that differs
   pub differs : (p : ℕ) → (r ≡ Differs p) ↔ (Passes z s × ((φ : ℕ → ℕ) × (c : ℕ → ℕ) × PrintsCubes z s φ c) × LowestDifference (z .n) table s p)
   -- a listing is refused exactly when it is not the listing of some terms, with the table's n, m, k and family and with its own counts

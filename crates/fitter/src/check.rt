@@ -51,7 +51,7 @@ fn judge_read(sizes: Sizes, table: &[u8; Expansion::PLACES], read: ListingRead) 
     ) {
         return Checked::NotOfClass; // before any point is compared
     }
-    match first_difference(n, &coefficients, &complements, table) {
+    match first_difference(n, &coefficients, &complements, record.inverted, table) {
         Difference::At(point) => Checked::Differs { point },
         Difference::Nowhere => Checked::Same,
     }

@@ -1,11 +1,11 @@
-// What the rows of a listing give at a point, and the lowest point at which that is not the table's byte.
+// What the rows of a listing give at a point, and the lowest point at which that, with the marked outputs inverted, is not the table's byte.
 use points::split::wide;
 use search::expansion::Expansion;
 ghost use mathlib.Core.Path.{_≡_};
 ghost use Prim.Native.Nat.{_^_, _≤_};
 ghost use Rattle.numbers.specs.Bytes.{at};
 ghost use Rattle.algebra.specs.Terms.{holds, value};
-ghost use Rattle.fitter.specs.Differences.{firstDifference};
+ghost use Rattle.fitter.specs.Differences.{invertedValue, firstDifference};
 ghost use Rattle.fitter.specs.inner.Differences.{differenceOf};
 
 // The lowest point that differs, if there is one.
@@ -43,20 +43,21 @@ fn value_at(
     sum
 }
 
-// The lowest of the 2^n points at which the rows do not give the table's byte.
+// The lowest of the 2^n points at which the rows, with the outputs of the mask inverted, do not give the table's byte.
 pub fn first_difference(
     n: usize,
     coefficients: &[u8; Expansion::PLACES],
     complements: &[u8; Expansion::PLACES],
+    inverted: u8,
     table: &[u8; Expansion::PLACES],
 ) -> Difference
     requires { ⌜ n ≤ 8 ⌝ }
-    ensures { λ r. ⌜ r ≡ differenceOf (firstDifference n (value n (at (now (complements .entry))) (at (now (coefficients .entry)))) (at (now (table .entry)))) ⌝ }
+    ensures { λ r. ⌜ r ≡ differenceOf (firstDifference n (invertedValue n (at (now (complements .entry))) (at (now (coefficients .entry))) inverted) (at (now (table .entry)))) ⌝ }
 {
     let size: usize = 1 << n;
     let mut p: usize = 0;
     while p < size {
-        if value_at(n, coefficients, complements, p) != table[p] {
+        if value_at(n, coefficients, complements, p) ^ inverted != table[p] {
             return Difference::At(p);
         }
         p += 1;

@@ -1,5 +1,5 @@
--- A field that says a number or outputs is the field that is written for them: there is one way to write a digit (`oneDigit-read`), a number
--- (`number-read`) and outputs (`outputs-read`).
+-- A field that says a number, a mask or outputs is the field that is written for them: there is one way to write a digit (`oneDigit-read`), a number
+-- (`number-read`), a mask (`mask-read`) and outputs (`outputs-read`).
 use mathlib.Core.Bool.{true, false, not, _&&_, _||_, false≢true}
 use mathlib.Core.List.{List, [], _∷_}
 use mathlib.Core.Path.{_≡_, refl, sym, ap, ap₂, _∙_}
@@ -14,8 +14,8 @@ use Rattle.listings.specs.Listing.{descending, digitCount, decimal, outputBytes
 use Rattle.listings.proofs.Cubes.{outputs-none, outputs-cons, digits-next}
 use Rattle.lines.specs.declared.values.Number.the-variants.{Is, Wrong}
 use Rattle.lines.specs.declared.values.Number.{Number}
-use Rattle.lines.specs.Fields.{andThen, digit, oneDigit, digitsFrom, wellFormed, number, bits, outputs}
-use Rattle.lines.proofs.Numbers.{wrong-is, under-test, digit-lt, digit-byte, wellFormed-le, outputs-is}
+use Rattle.lines.specs.Fields.{andThen, digit, oneDigit, digitsFrom, wellFormed, number, bits, mask, outputs}
+use Rattle.lines.proofs.Numbers.{wrong-is, under-test, digit-lt, digit-byte, wellFormed-le, mask-is, outputs-is}
 use Rattle.lines.proofs.Digits.{ten-least, ten-below, digitCount-of}
 use Rattle.lines.proofs.Written.{decimal-one}
 
@@ -75,7 +75,7 @@ number-read most f v few e =
     let said = digits-read most f v few (passes .0) (passes .1) in
     (said .0, lt-of-lt-of-le (said .1) (pow-le-pow-right {n = 10} (lit< tt) (wellFormed-le most f (passes .0))))
 
--- ---- outputs
+-- ---- masks and outputs
 
 bits-read : (f : List ℕ) (v : ℕ) → bits f ≡ Is v → f ≡ outputBytes (length f) v
 unfolding bits
@@ -91,7 +91,8 @@ bits-read (b ∷ f) v e = go (digit 2 b) (bits f) refl refl (bits-read f) e wher
   go (Is x) Wrong p q ih g = absurd (wrong-is g)
   go Wrong r p q ih g = absurd (wrong-is g)
 
+pub mask-read : (m : ℕ) (f : List ℕ) (v : ℕ) → mask m f ≡ Is v → f ≡ outputBytes m v
+mask-read m f v e = let said = mask-is m f v e in bits-read f v (said .1) ∙ ap (λ (m : ℕ). outputBytes m v) (said .0)
+
 pub outputs-read : (m : ℕ) (f : List ℕ) (v : ℕ) → outputs m f ≡ Is v → (f ≡ outputBytes m v) × (v ≡ 0 → ⊥)
-outputs-read m f v e =
-    let said = outputs-is m f v e in
-    (bits-read f v (said .1) ∙ ap (λ (m : ℕ). outputBytes m v) (said .0), said .2)
+outputs-read m f v e = let said = outputs-is m f v e in (mask-read m f v (said .0), said .1)

@@ -49,12 +49,16 @@ headed-read count word l e =
     let first : parts 9 l .first ≡ word = same-equal (parts 9 l .first) word (both-right (eqb (suc (length (parts 9 l .others))) (suc count)) _ e) in
     (fields-joined l ∙ ap (λ (w : List ℕ). w ++ tabbed (parts 9 l .others)) first, omega arith)
 
+-- a line of a word and so many fields
+pub headed-fields : (count : ℕ) (word l : List ℕ) → headed (suc count) word l ≡ true → l ≡ word ++ tabbed (each count (λ i. field (suc i) l))
+unfolding fields
+headed-fields count word l h =
+    let shape = headed-read count word l h in
+    shape .0 ∙ ap (λ (fs : List (List ℕ)). word ++ tabbed fs) (list-each (parts 9 l .others) count (shape .1))
+
 -- a line of a word and two fields
 pub two-fields : (word l a b : List ℕ) → headed 3 word l ≡ true → field 1 l ≡ a → field 2 l ≡ b → l ≡ word ++ tabbed (a ∷ b ∷ [])
-unfolding fields
-two-fields word l a b h ea eb =
-    let shape = headed-read 2 word l h in
-    shape .0 ∙ ap (λ (fs : List (List ℕ)). word ++ tabbed fs) (list-each (parts 9 l .others) 2 (shape .1) ∙ ap₂ (λ (f g : List ℕ). f ∷ g ∷ []) ea eb)
+two-fields word l a b h ea eb = headed-fields 2 word l h ∙ ap₂ (λ (f g : List ℕ). word ++ tabbed (f ∷ g ∷ [])) ea eb
 
 -- ---- the family, by the first word
 

@@ -1,4 +1,4 @@
--- Numbers read digit by digit, and outputs read character by character: what is left of the question after each byte, and bounds on
+-- Numbers read digit by digit, and masks and outputs read character by character: what is left of the question after each byte, and bounds on
 -- what is read. A digit is below its base, and m characters say a number below 2 ^ m.
 use mathlib.Core.Bool.{Bool, true, false, cond, _&&_, _||_, not}
 use mathlib.Core.List.{List, [], _∷_}
@@ -14,7 +14,7 @@ use lib.Pow.{pow-mono}
 use lib.Seq.{drop-cons}
 use Rattle.lines.specs.declared.values.Number.the-variants.{Is, Wrong}
 use Rattle.lines.specs.declared.values.Number.{Number}
-use Rattle.lines.specs.Fields.{andThen, digit, digitsFrom, wellFormed, bits, outputs}
+use Rattle.lines.specs.Fields.{andThen, digit, digitsFrom, wellFormed, bits, mask, outputs}
 use Rattle.numbers.proofs.Tests.{both-left, both-right}
 
 -- ---- one digit
@@ -109,28 +109,32 @@ pub bits-byte : (f : List ℕ) (k v : ℕ) → length f ≤ 8 → bits (drop k f
 bits-byte f k v h e =
     lt-of-lt-of-le (bits-lt (drop k f) v e) (pow-mono {i = length (drop k f)} {j = 8} (simp length-drop (omega arith)))
 
-pub outputs-wrong : (f : List ℕ) (k : ℕ) → k < length f → digit 2 (getD f k 0) ≡ Wrong → outputs (length f) f ≡ Wrong
-unfolding outputs
-outputs-wrong f k h e = rw (eq-eqb (length f) (length f) refl, bits-wrong f k h e)
+pub mask-wrong : (f : List ℕ) (k : ℕ) → k < length f → digit 2 (getD f k 0) ≡ Wrong → mask (length f) f ≡ Wrong
+unfolding mask
+mask-wrong f k h e = rw (eq-eqb (length f) (length f) refl, bits-wrong f k h e)
 
-pub outputs-bits : (f : List ℕ) (v : ℕ) → bits f ≡ Is v → outputs (length f) f ≡ cond (eqb v 0) Wrong (Is v)
-unfolding outputs
-outputs-bits f v e = rw (eq-eqb (length f) (length f) refl, e)
+pub mask-bits : (f : List ℕ) (v : ℕ) → bits f ≡ Is v → mask (length f) f ≡ Is v
+unfolding mask
+mask-bits f v e = rw (eq-eqb (length f) (length f) refl, e)
 
-pub outputs-is : (m : ℕ) (f : List ℕ) (v : ℕ) → outputs m f ≡ Is v → (length f ≡ m) × (bits f ≡ Is v) × (v ≡ 0 → ⊥)
-unfolding outputs
-outputs-is m f v e =
-    let passes = under-test (eqb (length f) m) (andThen (bits f) Wrong (λ u. cond (eqb u 0) Wrong (Is u))) v e in
-    let found = go (bits f) refl (passes .1) in
-    (eqb-true (length f) m (passes .0), found .0, found .1)
-  where
-    some : (u : ℕ) (t : Bool) → eqb u 0 ≡ t → cond t Wrong (Is u) ≡ Is v → (Is u ≡ Is v) × (v ≡ 0 → ⊥)
-    some u true h g = absurd (wrong-is g)
-    some u false h g = let value : u ≡ v = cc in (g, λ z. eqb-false u 0 h (value ∙ z))
+pub mask-is : (m : ℕ) (f : List ℕ) (v : ℕ) → mask m f ≡ Is v → (length f ≡ m) × (bits f ≡ Is v)
+unfolding mask
+mask-is m f v e = let passes = under-test (eqb (length f) m) (bits f) v e in (eqb-true (length f) m (passes .0), passes .1)
 
-    go : (r : Number) → bits f ≡ r → andThen r Wrong (λ u. cond (eqb u 0) Wrong (Is u)) ≡ Is v → (bits f ≡ Is v) × (v ≡ 0 → ⊥)
-    go (Is u) p g = let found = some u (eqb u 0) refl g in (p ∙ found .0, found .1)
-    go Wrong p g = absurd (wrong-is g)
+pub mask-lt : (m : ℕ) (f : List ℕ) (v : ℕ) → mask m f ≡ Is v → v < 2 ^ m
+mask-lt m f v e = let said = mask-is m f v e in rw (← said .0) (bits-lt f v (said .1))
+
+-- outputs are a mask that is not 0
+pub outputs-is : (m : ℕ) (f : List ℕ) (v : ℕ) → outputs m f ≡ Is v → (mask m f ≡ Is v) × (v ≡ 0 → ⊥)
+unfolding outputs
+outputs-is m f v e = go (mask m f) refl e where
+  some : (u : ℕ) (t : Bool) → eqb u 0 ≡ t → cond t Wrong (Is u) ≡ Is v → (Is u ≡ Is v) × (v ≡ 0 → ⊥)
+  some u true h g = absurd (wrong-is g)
+  some u false h g = let value : u ≡ v = cc in (g, λ z. eqb-false u 0 h (value ∙ z))
+
+  go : (r : Number) → mask m f ≡ r → andThen r Wrong (λ u. cond (eqb u 0) Wrong (Is u)) ≡ Is v → (mask m f ≡ Is v) × (v ≡ 0 → ⊥)
+  go (Is u) p g = let found = some u (eqb u 0) refl g in (p ∙ found .0, found .1)
+  go Wrong p g = absurd (wrong-is g)
 
 pub outputs-lt : (m : ℕ) (f : List ℕ) (v : ℕ) → outputs m f ≡ Is v → v < 2 ^ m
-outputs-lt m f v e = let said = outputs-is m f v e in rw (← said .0) (bits-lt f v (said .1))
+outputs-lt m f v e = mask-lt m f v (outputs-is m f v e .0)

@@ -1,5 +1,5 @@
--- A field as it is written is read back: digits say their number (`oneDigit-decimal`, `number-decimal`), and characters their outputs
--- (`outputs-written`).
+-- A field as it is written is read back: digits say their number (`oneDigit-decimal`, `number-decimal`), and characters their mask or outputs
+-- (`mask-written`, `outputs-written`).
 use mathlib.Core.Bool.{Bool, true, false, not, _||_}
 use mathlib.Core.List.{[], _∷_}
 use mathlib.Core.Path.{_≡_, refl, ap, _∙_}
@@ -14,7 +14,7 @@ use Rattle.listings.proofs.Characters.{length-outputs, length-decimal, at-decim
 use Rattle.listings.proofs.Cubes.{outputs-cons, digits-next, digitCount-bound}
 use Rattle.listings.proofs.Longest.{digitCount-one}
 use Rattle.lines.specs.declared.values.Number.the-variants.{Is}
-use Rattle.lines.specs.Fields.{digit, oneDigit, digitsFrom, wellFormed, number, bits, outputs}
+use Rattle.lines.specs.Fields.{digit, oneDigit, digitsFrom, wellFormed, number, bits, mask, outputs}
 use Rattle.lines.proofs.Numbers.{ten-le}
 use Rattle.lines.proofs.Digits.{ten-some, digitCount-least, digitCount-le}
 
@@ -76,7 +76,7 @@ number-decimal most x some few h =
     let small : x < 10000 = omega (arith, ten-le most few) in
     rw (wellFormed-decimal most x small (digitCount-le most x some h)) (digits-decimal x small)
 
--- ---- outputs
+-- ---- masks and outputs
 
 bits-written : (m c : ℕ) → c < 2 ^ m → bits (outputBytes m c) ≡ Is c
 unfolding bits outputBytes tabulate
@@ -85,6 +85,10 @@ bits-written (suc m) c h =
     let sum : c / 2 * 2 + c % 2 ≡ c = omega arith in
     ap bits (outputs-cons m c) ∙ rw (digit-written 2 (c % 2) (omega arith), bits-written m (c / 2) (omega arith), sum)
 
+pub mask-written : (m c : ℕ) → c < 2 ^ m → mask m (outputBytes m c) ≡ Is c
+unfolding mask
+mask-written m c h = rw (length-outputs m c, eq-eqb m m refl) (bits-written m c h)
+
 pub outputs-written : (m c : ℕ) → c < 2 ^ m → (c ≡ 0 → ⊥) → outputs m (outputBytes m c) ≡ Is c
 unfolding outputs
-outputs-written m c h some = rw (length-outputs m c, eq-eqb m m refl, bits-written m c h, ne-eqb c 0 some)
+outputs-written m c h some = rw (mask-written m c h, ne-eqb c 0 some)

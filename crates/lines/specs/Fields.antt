@@ -1,4 +1,4 @@
--- What the fields of a line say: words, digits, numbers and outputs. Document 01, "Text in, listing out", and document 02, W-203.
+-- What the fields of a line say: words, digits, numbers, outputs and masks. Document 01, "Text in, listing out", and document 02, W-203 and W-205.
 use mathlib.Core.Bool.{Bool, cond, _&&_, _||_, not}
 use mathlib.Core.List.{List, [], _∷_}
 use Prim.Native.Nat.{ℕ, _+_, _-_, _*_}
@@ -58,6 +58,10 @@ unfoldable pub bits : List ℕ → Number
 bits [] = Is 0
 bits (b ∷ f) = andThen (digit 2 b) Wrong (λ x. andThen (bits f) Wrong (λ v. Is (v * 2 + x)))
 
+-- document 02, W-205: "`inv` and m characters", of an "inversion mask (bit o for output o)": each `0` or `1`, and they may all be `0`
+unfoldable pub mask : ℕ → List ℕ → Number
+mask m f = cond (eqb (length f) m) (bits f) Wrong
+
 -- "Outputs are m characters, leftmost output 0, each `0` or `1`, not all `0`."
 unfoldable pub outputs : ℕ → List ℕ → Number
-outputs m f = cond (eqb (length f) m) (andThen (bits f) Wrong (λ v. cond (eqb v 0) Wrong (Is v))) Wrong
+outputs m f = andThen (mask m f) Wrong (λ v. cond (eqb v 0) Wrong (Is v))

@@ -1,8 +1,8 @@
-// What the fields of a line say: digits, numbers, outputs and cubes. A function here gives what the whole field says, or `Wrong` where it breaks
+// What the fields of a line say: digits, numbers, masks, outputs and cubes. A function here gives what the whole field says, or `Wrong` where it breaks
 // the grammar.
 ghost use mathlib.Core.Path.{_≡_};
 ghost use Prim.Native.Nat.{_≤_, _<_};
-ghost use Rattle.lines.specs.Fields.{digit, oneDigit, wellFormed, number, outputs};
+ghost use Rattle.lines.specs.Fields.{digit, oneDigit, wellFormed, number, mask, outputs};
 ghost use Rattle.lines.specs.Cubes.{characterSaid, cubeSaid};
 
 // What a field says that is to be a number.
@@ -78,10 +78,10 @@ pub fn read_number(most: usize, field: &[u8]) -> Number
     Number::Is(value)
 }
 
-// Outputs: m characters, not all `0`. The leftmost is the lowest bit, so they are taken from the right.
-pub fn outputs(m: usize, field: &[u8]) -> Number
+// A mask: m characters, which may all be `0`. The leftmost is the lowest bit, so they are taken from the right.
+pub fn mask(m: usize, field: &[u8]) -> Number
     requires { ⌜ m ≤ 8 ⌝ }
-    ensures { λ r. ⌜ r ≡ outputs m (now (field .entry)) ⌝ }
+    ensures { λ r. ⌜ r ≡ mask m (now (field .entry)) ⌝ }
 {
     if field.len() != m {
         return Number::Wrong;
@@ -95,6 +95,17 @@ pub fn outputs(m: usize, field: &[u8]) -> Number
         value = value * 2 + x;
         left -= 1;
     }
+    Number::Is(value)
+}
+
+// Outputs: m characters, not all `0`.
+pub fn outputs(m: usize, field: &[u8]) -> Number
+    requires { ⌜ m ≤ 8 ⌝ }
+    ensures { λ r. ⌜ r ≡ outputs m (now (field .entry)) ⌝ }
+{
+    let Number::Is(value) = mask(m, field) else {
+        return Number::Wrong;
+    };
     if value == 0 {
         return Number::Wrong;
     }

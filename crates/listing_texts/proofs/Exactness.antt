@@ -4,28 +4,27 @@ use mathlib.Core.Bool.{Bool, true, false, cond}
 use mathlib.Core.List.{List, [], _∷_, _++_, map, append-assoc}
 use mathlib.Core.Logic.{_↔_}
 use mathlib.Core.Path.{_≡_, refl, sym, ap, ap₂, _∙_}
-use Prim.Native.Nat.{ℕ, zero, suc, _+_, _*_, _/_, _%_, _^_, _≤_, _<_}
+use Prim.Native.Nat.{ℕ, suc, _^_, _<_}
 use native.Mathlib.Decide.{decLt}
 use native.Mathlib.Omega.{arith}
-use borrow.Author.Tests.{eq-eqb, eqb-true, lt-ltb}
-use lib.Bits.{bitAnd}
-use lib.Dec.{eqb, ltb}
+use borrow.Author.Tests.{eq-eqb, eqb-true}
+use lib.Dec.{eqb}
 use lib.ListN.{length, drop}
-use Rattle.numbers.specs.Bytes.{at, tabulate}
 use Rattle.numbers.specs.Refusals.{sizesRefusal, Sized}
-use Rattle.numbers.specs.Tests.{only}
 use Rattle.numbers.proofs.Shifts.{points-le}
-use Rattle.numbers.proofs.Bytes.{at-tabulate}
 use Rattle.numbers.proofs.Tests.{both-left, both-right}
 use Rattle.numbers.proofs.refusals.Judging.{sizes-none, sizes-accepted}
 use Rattle.expansions.specs.declared.families.Family.{Family}
-use Rattle.expansions.specs.Costs.{counted, products, literals}
+use Rattle.expansions.specs.Costs.{products, literals}
 use Rattle.expansions.proofs.Costs.{products-le, products-ext, literals-ext, literals-lt}
 use Rattle.listings.specs.Parts.{parts, bytes}
-use Rattle.listings.specs.Listing.{tabbed, line, decimal, formWord, formLine, termLines, listingWith}
+use Rattle.listings.specs.Listing.{line, decimal, outputBytes, formWord, formLine, invLine, termLines, listingWith}
 use Rattle.listings.proofs.Joined.{parts-lines}
-use Rattle.listings.proofs.Meaning.{plain-form, plain-numbers}
-use Rattle.listings.proofs.Parts.{separated, parts-joined, others-none, others-more}
+use Rattle.listings.proofs.Meaning.{plain-form, plain-numbers, plain-outputs, plain-inv}
+use Rattle.lines.specs.declared.values.Number.{Number}
+use Rattle.lines.specs.declared.values.Number.the-variants as number
+use Rattle.lines.specs.declared.values.Number.the-variants.{Is}
+use Rattle.lines.specs.Fields.{andThen}
 use Rattle.lines.specs.Rows as lines
 use Rattle.lines.specs.Rows.{rowsFrom}
 use Rattle.lines.proofs.Terms.{TermRows, term-rows-read, term-rows-written}
@@ -34,49 +33,45 @@ use Rattle.listing_texts.specs.declared.form.Form.{Form}
 use Rattle.listing_texts.specs.declared.form.FirstLine.{FirstLine}
 use Rattle.listing_texts.specs.declared.form.FirstLine.the-variants.{States, Wrong}
 use Rattle.listing_texts.specs.Form.{firstLine, formNumbers, Digits}
+use Rattle.listing_texts.specs.Inv.{invSaid}
 use Rattle.listing_texts.specs.Rows.{coefficientIn, complementedIn}
-use Rattle.listing_texts.specs.Read.{ListingReading, shown, refused, alike, countsRight, linesJudged, firstJudged, grammar, allLines, listingReading}
+use Rattle.listing_texts.specs.Read.{shown, refused, alike, countsRight, linesJudged, firstJudged, grammar, fromSecond, allLines, listingReading}
 use Rattle.listing_texts.specs.Listings.{termListing, Passes}
+use Rattle.listing_texts.specs.inner.Judging.{secondAt}
 use Rattle.listing_texts.proofs.Families.{family-equal, family-self}
 use Rattle.listing_texts.proofs.FormRead.{form-said, form-read}
+use Rattle.listing_texts.proofs.InvRead.{inv-said, inv-read}
+use Rattle.listing_texts.proofs.WrittenRows.{writtenRows, row-coefficient}
+use Rattle.listing_texts.proofs.Opened.{reading-split, second-split, split-joined, reading-unfinished, second-unfinished}
 
--- ---- a listing by its first line and what follows it
-
-no-refusal : {number at : ℕ} {f : Form} {t : List ℕ} → refused number at ≡ shown f t → ⊥
+no-refusal : {number at v : ℕ} {f : Form} {t : List ℕ} → refused number at ≡ shown f v t → ⊥
 no-refusal e = let z : _≡_ {A = ℕ} 0 1 = cc in omega arith
 
--- what a listing means whose first line is l, without its byte 10, and is followed by s
-abbrev pub opened : Sizes → List ℕ → List ℕ → ListingReading
-opened z l s = firstJudged (firstLine l) z (λ f. linesJudged (z .n) f (rowsFrom (grammar z) 2 s))
-
-pub reading-split : (z : Sizes) (s : List ℕ) → length (parts 10 s .first) < length s
-    → listingReading z s ≡ opened z (parts 10 s .first) (drop (suc (length (parts 10 s .first))) s)
-unfolding listingReading allLines
-reading-split z s h = ap (allLines z (parts 10 s .first)) (others-more 10 s h)
-
-pub reading-unfinished : (z : Sizes) (s : List ℕ) → length s ≤ length (parts 10 s .first) → listingReading z s ≡ refused 11 1
-unfolding listingReading allLines
-reading-unfinished z s h = ap (allLines z (parts 10 s .first)) (others-none 10 s h)
-
-split-joined : (s : List ℕ) → length (parts 10 s .first) < length s → s ≡ parts 10 s .first ++ 10 ∷ drop (suc (length (parts 10 s .first))) s
-unfolding separated
-split-joined s h =
-    let rest : List ℕ = drop (suc (length (parts 10 s .first))) s in
-    sym (parts-joined 10 s)
-    ∙ ap (λ (ls : List (List ℕ)). parts 10 s .first ++ separated 10 ls) (others-more 10 s h)
-    ∙ ap (λ (r : List ℕ). parts 10 s .first ++ 10 ∷ r) (parts-joined 10 rest)
+-- the lines of a listing: its first line, its second, those of its products, and `end`
+listing-lines : (z : Sizes) (v M i : ℕ) (w c : ℕ → ℕ)
+    → termListing z v M i w c
+    ≡ line (formWord (z .family)) (map decimal (z .n ∷ z .m ∷ z .k ∷ M ∷ i ∷ products (z .n) c ∷ literals (z .n) c ∷ []))
+    ++ (line (bytes "inv") (outputBytes (z .m) v ∷ []) ++ (termLines (z .n) (z .m) w c (2 ^ z .n) ++ line (bytes "end") []))
+unfolding termListing listingWith formLine invLine
+listing-lines z v M i w c =
+    let numbers : List ℕ = z .n ∷ z .m ∷ z .k ∷ M ∷ i ∷ products (z .n) c ∷ literals (z .n) c ∷ [] in
+    let first : List ℕ = line (formWord (z .family)) (map decimal numbers) in
+    let second : List ℕ = line (bytes "inv") (outputBytes (z .m) v ∷ []) in
+    let terms : List ℕ = termLines (z .n) (z .m) w c (2 ^ z .n) in
+    append-assoc (first ++ second) terms (line (bytes "end") []) ∙ append-assoc first second (terms ++ line (bytes "end") [])
 
 -- ---- a listing that is read
 
--- what holds of a listing that is read as the first line f and the rows t
-pub record ListingIs (z : Sizes) (s : List ℕ) (f : Form) (t : List ℕ) : Type 0 where
+-- what holds of a listing that is read as the first line f, the mask v and the rows t
+pub record ListingIs (z : Sizes) (s : List ℕ) (f : Form) (v : ℕ) (t : List ℕ) : Type 0 where
   pub sized : Sized (z .n) (z .m) (z .k)
   pub sizes : f .sizes ≡ z
   pub digits : Digits f
+  pub mask : v < 2 ^ z .m
   pub rows : TermRows (z .n) (z .m) t
   pub products-counted : f .products ≡ products (z .n) (coefficientIn t)
   pub literals-counted : f .literals ≡ literals (z .n) (coefficientIn t)
-  pub characters : s ≡ termListing z (f .mixed) (f .fixed) (complementedIn t) (coefficientIn t)
+  pub characters : s ≡ termListing z v (f .mixed) (f .fixed) (complementedIn t) (coefficientIn t)
 
 pub alike-sizes : (z y : Sizes) → alike z y ≡ true → Sized (z .n) (z .m) (z .k) × (y ≡ z)
 unfolding alike
@@ -92,39 +87,66 @@ alike-sizes z y e =
     let whole : _≡_ {A = Sizes} (record { n = y .n; m = y .m; k = y .k; family = y .family }) (record { n = z .n; m = z .m; k = z .k; family = z .family }) = rw (n, m, k, family) in
     (sizes-none (z .n) (z .m) (z .k) legal, whole)
 
+pub alike-self : (z : Sizes) → Sized (z .n) (z .m) (z .k) → alike z z ≡ true
+unfolding alike
+alike-self z sized = rw (sizes-accepted (z .n) (z .m) (z .k) sized, eq-eqb (z .n) (z .n) refl, eq-eqb (z .m) (z .m) refl, eq-eqb (z .k) (z .k) refl, family-self (z .family))
+
 counts-right : (n : ℕ) (f : Form) (t : List ℕ) → countsRight n f t ≡ true
     → (f .products ≡ products n (coefficientIn t)) × (f .literals ≡ literals n (coefficientIn t))
 unfolding countsRight
 counts-right n f t e = (eqb-true _ _ (both-left _ (eqb (f .literals) (literals n (coefficientIn t))) e), eqb-true _ _ (both-right (eqb (f .products) (products n (coefficientIn t))) _ e))
 
--- the lines after the first passed, and so did the counts
-lines-passed : (n : ℕ) (g f : Form) (r : lines.RowsRead) (t : List ℕ) → linesJudged n g r ≡ shown f t
-    → (r ≡ lines.rows t) × (g ≡ f) × (countsRight n f t ≡ true)
+-- the lines after the second passed, and so did the counts
+lines-passed : (n : ℕ) (g : Form) (u : ℕ) (f : Form) (v : ℕ) (r : lines.RowsRead) (t : List ℕ) → linesJudged n g u r ≡ shown f v t
+    → (r ≡ lines.rows t) × (g ≡ f) × (u ≡ v) × (countsRight n f t ≡ true)
 unfolding linesJudged
-lines-passed n g f (lines.rows v) t e = go (countsRight n g v) refl e where
-  go : (b : Bool) → countsRight n g v ≡ b → cond b (shown g v) (refused 12 1) ≡ shown f t → (lines.rows v ≡ lines.rows t) × (g ≡ f) × (countsRight n f t ≡ true)
+lines-passed n g u f v (lines.rows x) t e = go (countsRight n g x) refl e where
+  go : (b : Bool) → countsRight n g x ≡ b → cond b (shown g u x) (refused 12 1) ≡ shown f v t
+      → (lines.rows x ≡ lines.rows t) × (g ≡ f) × (u ≡ v) × (countsRight n f t ≡ true)
   go true h e =
       let same : g ≡ f = cc in
-      let rows : v ≡ t = cc in
-      (ap lines.rows rows, same, ap₂ (countsRight n) (sym same) (sym rows) ∙ h)
+      let rows : x ≡ t = cc in
+      (ap lines.rows rows, same, cc, ap₂ (countsRight n) (sym same) (sym rows) ∙ h)
   go false h e = absurd (no-refusal e)
-lines-passed n g f (lines.refused number at) t e = absurd (no-refusal e)
+lines-passed n g u f v (lines.refused number at) t e = absurd (no-refusal e)
 
-written-back : (z : Sizes) (f : Form) (t : List ℕ) → f .sizes ≡ z → f .products ≡ products (z .n) (coefficientIn t) → f .literals ≡ literals (z .n) (coefficientIn t)
-    → (formWord (f .sizes .family) ++ tabbed (map decimal (formNumbers f))) ++ 10 ∷ (termLines (z .n) (z .m) (complementedIn t) (coefficientIn t) (2 ^ z .n) ++ line (bytes "end") [])
-    ≡ termListing z (f .mixed) (f .fixed) (complementedIn t) (coefficientIn t)
-unfolding termListing listingWith formLine line
-written-back z f t ez ep el =
-    let numbers : List ℕ = z .n ∷ z .m ∷ z .k ∷ f .mixed ∷ f .fixed ∷ products (z .n) (coefficientIn t) ∷ literals (z .n) (coefficientIn t) ∷ [] in
-    let same : formNumbers f ≡ numbers = cc in
-    let family : f .sizes .family ≡ z .family = ap (λ (y : Sizes). y .family) ez in
-    let first : List ℕ = formWord (z .family) ++ tabbed (map decimal numbers) in
-    let terms : List ℕ = termLines (z .n) (z .m) (complementedIn t) (coefficientIn t) (2 ^ z .n) in
-    let last : List ℕ = line (bytes "end") [] in
-    ap₂ (λ (y : Family) (xs : List ℕ). (formWord y ++ tabbed (map decimal xs)) ++ 10 ∷ (terms ++ last)) family same
-    ∙ sym (append-assoc (first ++ 10 ∷ []) terms last ∙ append-assoc first (10 ∷ []) (terms ++ last))
+-- what holds of the lines after the first, which are read as the mask v and the rows t
+record SecondIs (z : Sizes) (s : List ℕ) (g f : Form) (v : ℕ) (t : List ℕ) : Type 0 where
+  form : g ≡ f
+  mask : v < 2 ^ z .m
+  rows : TermRows (z .n) (z .m) t
+  counts : countsRight (z .n) f t ≡ true
+  characters : s
+      ≡ line (bytes "inv") (outputBytes (z .m) v ∷ []) ++ (termLines (z .n) (z .m) (complementedIn t) (coefficientIn t) (2 ^ z .n) ++ line (bytes "end") [])
 
-module _ (z : Sizes) (s : List ℕ) (f : Form) (t : List ℕ) where
+module _ (z : Sizes) (s : List ℕ) (g f : Form) (v : ℕ) (t : List ℕ) (sized : Sized (z .n) (z .m) (z .k)) where
+  abbrev after : List ℕ
+  after = drop (suc (length (parts 10 s .first))) s
+
+  by-second : length (parts 10 s .first) < length s → (x : Number) → invSaid (z .m) (parts 10 s .first) ≡ x
+      → andThen x (refused 11 2) (λ u. linesJudged (z .n) g u (rowsFrom (grammar z) 3 after)) ≡ shown f v t → SecondIs z s g f v t
+  by-second h (Is u) says w =
+      let passed = lines-passed (z .n) g u f v (rowsFrom (grammar z) 3 after) t w in
+      let inv = inv-read (z .m) (parts 10 s .first) v (says ∙ ap Is (passed .2)) in
+      let terms = term-rows-read (z .n) (z .m) 3 after t (sized .inputs .1) (sized .outputs .1) (passed .0) in
+      record {
+        form = passed .1;
+        mask = inv .1;
+        rows = terms .1;
+        counts = passed .3;
+        characters =
+            split-joined s h (bytes "inv") (outputBytes (z .m) v ∷ []) (inv .0)
+            ∙ ap (λ (r : List ℕ). line (bytes "inv") (outputBytes (z .m) v ∷ []) ++ r) (terms .0);
+      }
+  by-second h number.Wrong says w = absurd (no-refusal w)
+
+  second-read : secondAt z g s 0 ≡ shown f v t → SecondIs z s g f v t
+  second-read e = go (decLt (length (parts 10 s .first)) (length s)) where
+    go : Dec (length (parts 10 s .first) < length s) → SecondIs z s g f v t
+    go (yes h) = by-second h (invSaid (z .m) (parts 10 s .first)) refl (sym (second-split s h z g) ∙ e)
+    go (no h) = absurd (no-refusal (sym (second-unfinished s (omega arith) z g) ∙ e))
+
+module _ (z : Sizes) (s : List ℕ) (f : Form) (v : ℕ) (t : List ℕ) where
   abbrev first : List ℕ
   first = parts 10 s .first
 
@@ -132,68 +154,49 @@ module _ (z : Sizes) (s : List ℕ) (f : Form) (t : List ℕ) where
   rest = drop (suc (length (parts 10 s .first))) s
 
   by-sizes : length first < length s → (g : Form) → firstLine first ≡ States g → (b : Bool) → alike z (g .sizes) ≡ b
-      → cond b (linesJudged (z .n) g (rowsFrom (grammar z) 2 rest)) (refused 12 1) ≡ shown f t → ListingIs z s f t
+      → cond b (secondAt z g rest 0) (refused 12 1) ≡ shown f v t → ListingIs z s f v t
   by-sizes h g says true same w =
       let legal = alike-sizes z (g .sizes) same in
-      let passed = lines-passed (z .n) g f (rowsFrom (grammar z) 2 rest) t w in
-      let form = form-read first f (says ∙ ap States (passed .1)) in
-      let terms = term-rows-read (z .n) (z .m) 2 rest t (legal .0 .inputs .1) (legal .0 .outputs .1) (passed .0) in
-      let counts = counts-right (z .n) f t (passed .2) in
-      let sizes : f .sizes ≡ z = ap (λ (x : Form). x .sizes) (sym (passed .1)) ∙ legal .1 in
+      let second = second-read z rest g f v t (legal .0) w in
+      let form = form-read first f (says ∙ ap States (second .form)) in
+      let counts = counts-right (z .n) f t (second .counts) in
+      let sizes : f .sizes ≡ z = ap (λ (x : Form). x .sizes) (sym (second .form)) ∙ legal .1 in
+      let numbers : List ℕ = z .n ∷ z .m ∷ z .k ∷ f .mixed ∷ f .fixed ∷ products (z .n) (coefficientIn t) ∷ literals (z .n) (coefficientIn t) ∷ [] in
+      let stated : formNumbers f ≡ numbers = cc in
+      let family : f .sizes .family ≡ z .family = ap (λ (y : Sizes). y .family) sizes in
       record {
         sized = legal .0;
         sizes = sizes;
         digits = form .1;
-        rows = terms .1;
+        mask = second .mask;
+        rows = second .rows;
         products-counted = counts .0;
         literals-counted = counts .1;
         characters =
-            split-joined s h ∙ ap₂ (λ (a b : List ℕ). a ++ 10 ∷ b) (form .0) (terms .0) ∙ written-back z f t sizes (counts .0) (counts .1);
+            split-joined s h (formWord (f .sizes .family)) (map decimal (formNumbers f)) (form .0)
+            ∙ ap₂ (λ (y : Family) (xs : List ℕ). line (formWord y) (map decimal xs) ++ rest) family stated
+            ∙ ap (λ (r : List ℕ). line (formWord (z .family)) (map decimal numbers) ++ r) (second .characters)
+            ∙ sym (listing-lines z v (f .mixed) (f .fixed) (complementedIn t) (coefficientIn t));
       }
   by-sizes h g says false same w = absurd (no-refusal w)
 
-  by-first : length first < length s → (x : FirstLine) → firstLine first ≡ x
-      → firstJudged x z (λ f. linesJudged (z .n) f (rowsFrom (grammar z) 2 rest)) ≡ shown f t → ListingIs z s f t
+  by-first : length first < length s → (x : FirstLine) → firstLine first ≡ x → firstJudged x z (λ g. secondAt z g rest 0) ≡ shown f v t → ListingIs z s f v t
   by-first h (States g) says w = by-sizes h g says (alike z (g .sizes)) refl w
   by-first h Wrong says w = absurd (no-refusal w)
 
-  pub listing-read : listingReading z s ≡ shown f t → ListingIs z s f t
+  pub listing-read : listingReading z s ≡ shown f v t → ListingIs z s f v t
   listing-read e = go (decLt (length first) (length s)) where
-    go : Dec (length first < length s) → ListingIs z s f t
-    go (yes h) = by-first h (firstLine first) refl (sym (reading-split z s h) ∙ e)
-    go (no h) = absurd (no-refusal (sym (reading-unfinished z s (omega arith)) ∙ e))
+    go : Dec (length first < length s) → ListingIs z s f v t
+    go (yes h) = by-first h (firstLine first) refl (sym (reading-split s h z) ∙ e)
+    go (no h) = absurd (no-refusal (sym (reading-unfinished s (omega arith) z) ∙ e))
 
 -- ---- a listing that is written
 
--- the rows of the lines that are written for terms
-unfoldable pub writtenRows : ℕ → (w c : ℕ → ℕ) → List ℕ
-writtenRows n w c = tabulate 256 (λ t. only (ltb t (2 ^ n)) (counted (c t) (bitAnd t (w t) * 256 + c t)))
-
--- the first line that is written for them
+-- the first line that is written for terms
 abbrev pub writtenForm : Sizes → (M i : ℕ) → (ℕ → ℕ) → Form
 writtenForm z M i c = record { sizes = z; mixed = M; fixed = i; products = products (z .n) c; literals = literals (z .n) c }
 
-module _ (n : ℕ) (w c : ℕ → ℕ) (few : n ≤ 8) (small : (t : ℕ) → t < 2 ^ n → c t < 256) where
-  row-at : (t : ℕ) → t < 2 ^ n → at (writtenRows n w c) t ≡ counted (c t) (bitAnd t (w t) * 256 + c t)
-  unfolding writtenRows only
-  row-at t h = at-tabulate 256 _ t (omega (arith, points-le n few)) ∙ rw (lt-ltb t (2 ^ n) h)
-
-  -- the outputs of a row are the coefficient, and its complemented inputs those of the term's polarity where it is a product
-  pub row-coefficient : (t : ℕ) → t < 2 ^ n → coefficientIn (writtenRows n w c) t ≡ c t
-  unfolding counted
-  row-coefficient t h = ap (λ (x : ℕ). x % 256) (row-at t h) ∙ go (c t) (small t h) where
-    go : (x : ℕ) → x < 256 → counted x (bitAnd t (w t) * 256 + x) % 256 ≡ x
-    go zero l = refl
-    go (suc x) l = omega arith
-
-  pub row-complemented : (t : ℕ) → t < 2 ^ n → complementedIn (writtenRows n w c) t ≡ counted (c t) (bitAnd t (w t))
-  unfolding counted
-  row-complemented t h = ap (λ (x : ℕ). x / 256) (row-at t h) ∙ go (c t) (small t h) where
-    go : (x : ℕ) → x < 256 → counted x (bitAnd t (w t) * 256 + x) / 256 ≡ counted x (bitAnd t (w t))
-    go zero l = refl
-    go (suc x) l = omega arith
-
-module _ (z : Sizes) (M i : ℕ) (w c : ℕ → ℕ) (sized : Sized (z .n) (z .m) (z .k)) (hM : M < 10000) (hi : i < 10000)
+module _ (z : Sizes) (v M i : ℕ) (w c : ℕ → ℕ) (sized : Sized (z .n) (z .m) (z .k)) (hv : v < 2 ^ z .m) (hM : M < 10000) (hi : i < 10000)
     (small : (t : ℕ) → t < 2 ^ z .n → c t < 2 ^ z .m) where
   bytes-small : (t : ℕ) → t < 2 ^ z .n → c t < 256
   bytes-small t h = omega (arith, small t h, points-le (z .m) (sized .outputs .1))
@@ -210,10 +213,6 @@ module _ (z : Sizes) (M i : ℕ) (w c : ℕ → ℕ) (sized : Sized (z .n) (z .m
         literals = omega (arith, literals-lt (z .n) c (sized .inputs .1));
       }
 
-  sizes-alike : alike z z ≡ true
-  unfolding alike
-  sizes-alike = rw (sizes-accepted (z .n) (z .m) (z .k) sized, eq-eqb (z .n) (z .n) refl, eq-eqb (z .m) (z .m) refl, eq-eqb (z .k) (z .k) refl, family-self (z .family))
-
   counts-written : countsRight (z .n) (writtenForm z M i c) (writtenRows (z .n) w c) ≡ true
   unfolding countsRight
   counts-written =
@@ -225,31 +224,35 @@ module _ (z : Sizes) (M i : ℕ) (w c : ℕ → ℕ) (sized : Sized (z .n) (z .m
         eq-eqb (literals (z .n) c) (literals (z .n) c) refl,
       )
 
-  pub listing-written : listingReading z (termListing z M i w c) ≡ shown (writtenForm z M i c) (writtenRows (z .n) w c)
-  unfolding termListing listingWith formLine listingReading allLines linesJudged writtenRows
+  pub listing-written : listingReading z (termListing z v M i w c) ≡ shown (writtenForm z M i c) v (writtenRows (z .n) w c)
+  unfolding listingReading allLines fromSecond linesJudged writtenRows
   listing-written =
       let numbers : List ℕ = formNumbers (writtenForm z M i c) in
-      let terms : List ℕ = termLines (z .n) (z .m) w c (2 ^ z .n) in
-      let last : List ℕ = line (bytes "end") [] in
-      ap (listingReading z) (append-assoc (line (formWord (z .family)) (map decimal numbers)) terms last)
+      let rest : List ℕ = termLines (z .n) (z .m) w c (2 ^ z .n) ++ line (bytes "end") [] in
+      let mask : List (List ℕ) = outputBytes (z .m) v ∷ [] in
+      ap (listingReading z) (listing-lines z v M i w c)
       ∙ rw (
-        parts-lines (formWord (z .family)) (map decimal numbers) (terms ++ last) (plain-form (z .family)) (plain-numbers numbers),
+        parts-lines (formWord (z .family)) (map decimal numbers) (line (bytes "inv") mask ++ rest) (plain-form (z .family)) (plain-numbers numbers),
         form-said (writtenForm z M i c) form-digits,
-        sizes-alike,
-        term-rows-written (z .n) (z .m) 2 w c (sized .inputs .1) (sized .outputs .1) small,
+        alike-self z sized,
+        parts-lines (bytes "inv") mask rest plain-inv (plain-outputs (z .m) v, tt),
+        inv-said (z .m) v hv,
+        term-rows-written (z .n) (z .m) 3 w c (sized .inputs .1) (sized .outputs .1) small,
         counts-written,
       )
 
 -- ---- exactly
 
-pub read-passes : (z : Sizes) (s : List ℕ) (f : Form) (t : List ℕ) → listingReading z s ≡ shown f t → Passes z s
-read-passes z s f t e =
-    let r = listing-read z s f t e in
+pub read-passes : (z : Sizes) (s : List ℕ) (f : Form) (v : ℕ) (t : List ℕ) → listingReading z s ≡ shown f v t → Passes z s
+read-passes z s f v t e =
+    let r = listing-read z s f v t e in
     record {
+      inverted = v;
       mixed = f .mixed;
       fixed = f .fixed;
       polarity = complementedIn t;
       coefficient = coefficientIn t;
+      mask = r .mask;
       mixed-digits = r .digits .mixed;
       fixed-digits = r .digits .fixed;
       outputs = r .rows .outputs;
@@ -257,12 +260,14 @@ read-passes z s f t e =
     }
 
 pub passes-exactly : (z : Sizes) (s : List ℕ) → Sized (z .n) (z .m) (z .k)
-    → Passes z s ↔ ((f : Form) × (t : List ℕ) × (listingReading z s ≡ shown f t))
+    → Passes z s ↔ ((f : Form) × (v : ℕ) × (t : List ℕ) × (listingReading z s ≡ shown f v t))
 passes-exactly z s sized = (
   (λ p. (
     writtenForm z (p .mixed) (p .fixed) (p .coefficient),
+    p .inverted,
     writtenRows (z .n) (p .polarity) (p .coefficient),
-    ap (listingReading z) (p .characters) ∙ listing-written z (p .mixed) (p .fixed) (p .polarity) (p .coefficient) sized (p .mixed-digits) (p .fixed-digits) (p .outputs),
+    ap (listingReading z) (p .characters)
+        ∙ listing-written z (p .inverted) (p .mixed) (p .fixed) (p .polarity) (p .coefficient) sized (p .mask) (p .mixed-digits) (p .fixed-digits) (p .outputs),
   )),
-  (λ r. read-passes z s (r .0) (r .1) (r .2)),
+  (λ r. read-passes z s (r .0) (r .1) (r .2) (r .3)),
 )

@@ -1,4 +1,4 @@
--- A listing that passes has at most 5,923 bytes (`passes-length`), so that its first 8,192 bytes are the whole of it (`passes-first`).
+-- A listing that passes has at most 5,936 bytes (`passes-length`), so that its first 8,192 bytes are the whole of it (`passes-first`).
 use mathlib.Core.List.{List, [], _∷_}
 use mathlib.Core.Path.{_≡_}
 use Prim.Native.Nat.{ℕ, _+_, _*_, _≤_}
@@ -17,7 +17,7 @@ use Rattle.listings.proofs.Longest.{digitCount-one, digitCount-three}
 use Rattle.table_texts.specs.declared.sizes.Sizes.{Sizes}
 use Rattle.listing_texts.specs.Listings.{termListing, Passes}
 
-module _ (z : Sizes) (sized : Sized (z .n) (z .m) (z .k)) (M i : ℕ) (w c : ℕ → ℕ) where
+module _ (z : Sizes) (sized : Sized (z .n) (z .m) (z .k)) (v M i : ℕ) (w c : ℕ → ℕ) where
   few : products (z .n) c ≤ 256
   few = omega (arith, products-le (z .n) c, points-le (z .n) (sized .inputs .1))
 
@@ -35,15 +35,15 @@ module _ (z : Sizes) (sized : Sized (z .n) (z .m) (z .k)) (M i : ℕ) (w c : ℕ
         digitCount-in (literals (z .n) c),
       )
 
-  listing-le : length (termListing z M i w c) ≤ 5923
+  listing-le : length (termListing z v M i w c) ≤ 5936
   unfolding termListing
   listing-le =
       let width : 5 + z .n + 1 + z .m + 1 ≤ 23 = omega (arith, sized .inputs .1, sized .outputs .1) in
       let terms : products (z .n) c * (5 + z .n + 1 + z .m + 1) ≤ 256 * 23 = mul-le-mul few width in
-      rw (length-listingWith (z .family) _ (z .n) (z .m) w c) (omega (arith, digits-le, length-formWord (z .family)))
+      rw (length-listingWith (z .family) _ v (z .n) (z .m) w c) (omega (arith, digits-le, length-formWord (z .family), sized .outputs .1))
 
-pub passes-length : (z : Sizes) (s : List ℕ) → Sized (z .n) (z .m) (z .k) → Passes z s → length s ≤ 5923
-passes-length z s sized p = rw (p .characters) (listing-le z sized (p .mixed) (p .fixed) (p .polarity) (p .coefficient))
+pub passes-length : (z : Sizes) (s : List ℕ) → Sized (z .n) (z .m) (z .k) → Passes z s → length s ≤ 5936
+passes-length z s sized p = rw (p .characters) (listing-le z sized (p .inverted) (p .mixed) (p .fixed) (p .polarity) (p .coefficient))
 
 -- each file is judged by its first 8,192 bytes
 pub passes-first : (z : Sizes) (s : List ℕ) → Sized (z .n) (z .m) (z .k) → Passes z s → take 8192 s ≡ s

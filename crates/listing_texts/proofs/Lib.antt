@@ -1,7 +1,11 @@
 pub mod Families
 pub mod FormRead
+pub mod InvRead
+pub mod Opened
+pub mod WrittenRows
 pub mod Exactness
 pub mod Unlike
+pub mod SecondLine
 pub mod BesideKronecker
 pub mod Length
 pub mod ReadBack

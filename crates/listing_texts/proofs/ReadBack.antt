@@ -23,7 +23,7 @@ use Rattle.membership.proofs.Answers.{answer-shown}
 use Rattle.search.specs.declared.expansion.Expansion.{Expansion}
 use Rattle.expansions.specs.declared.families.Family.{Family}
 use Rattle.search.specs.Expansion.{answerExpansion}
-use Rattle.search.proofs.expansion.Answer.{answerExpansion-is, expansion-coefficients, expansion-blocks, expansion-coefficients-lt}
+use Rattle.search.proofs.expansion.Answer.{answerExpansion-is, expansion-coefficients, expansion-blocks, expansion-coefficients-lt, expansion-inverted-lt}
 use Rattle.listings.specs.Listing.{listing}
 use Rattle.table_texts.specs.declared.sizes.Sizes.{Sizes}
 use Rattle.listing_texts.specs.declared.read.ListingAnswer.the-variants.{Given}
@@ -32,7 +32,8 @@ use Rattle.listing_texts.specs.Read.{ListingReading, listingReading, sho
 use Rattle.listing_texts.specs.Listings.{termListing}
 use Rattle.listing_texts.specs.Record.{shownExpansion, shownRead, handedUp}
 use Rattle.listing_texts.specs.ReadBack.{MemberRecord, asShown}
-use Rattle.listing_texts.proofs.Exactness.{writtenRows, writtenForm, row-coefficient, row-complemented, listing-written}
+use Rattle.listing_texts.proofs.WrittenRows.{writtenRows, row-coefficient, row-complemented}
+use Rattle.listing_texts.proofs.Exactness.{writtenForm, listing-written}
 
 coefficients-long : (F : Family) (n k : ℕ) (f : ℕ → ℕ) → length (answerExpansion F n k f .coefficients) ≡ 256
 unfolding answerExpansion
@@ -56,7 +57,7 @@ module _ (z : Sizes) (e : Expansion) (sized : Sized (z .n) (z .m) (z .k)) (r : M
   bytes-small t h = omega (arith, r .outputs t, points-le (z .m) (sized .outputs .1))
 
   -- the listing of the record is the listing of its terms
-  pub listing-terms : listing (z .family) (z .n) (z .m) (z .k) e ≡ termListing z (e .mixed) (e .fixed) w c
+  pub listing-terms : listing (z .family) (z .n) (z .m) (z .k) e ≡ termListing z (e .inverted) (e .mixed) (e .fixed) w c
   unfolding listing termListing
   listing-terms = rw (r .products-counted, r .literals-counted)
 
@@ -81,13 +82,13 @@ module _ (z : Sizes) (e : Expansion) (sized : Sized (z .n) (z .m) (z .k)) (r : M
     go j true l = lines j ∙ shown-back (z .n) (z .k) (e .mixed) (e .fixed) (at (e .blocks)) c (r .member) j
     go j false l = shown-past (z .n) (z .k) (e .mixed) _ j (r .member .size) (ltb-false j (2 ^ (z .n - z .k)) l)
 
-  pub record-shown : listingReading z (listing (z .family) (z .n) (z .m) (z .k) e) ≡ shown (writtenForm z (e .mixed) (e .fixed) c) rows
+  pub record-shown : listingReading z (listing (z .family) (z .n) (z .m) (z .k) e) ≡ shown (writtenForm z (e .mixed) (e .fixed) c) (e .inverted) rows
   record-shown =
       let few : 2 ^ z .n ≤ 256 = points-le (z .n) (sized .inputs .1) in
       ap (listingReading z) listing-terms
-      ∙ listing-written z (e .mixed) (e .fixed) w c sized (omega (arith, r .member .mask)) (omega (arith, r .member .fixed)) (λ t h. r .outputs t)
+      ∙ listing-written z (e .inverted) (e .mixed) (e .fixed) w c sized (r .mask) (omega (arith, r .member .mask)) (omega (arith, r .member .fixed)) (λ t h. r .outputs t)
 
-  back : shownExpansion (z .n) (writtenForm z (e .mixed) (e .fixed) c) rows ≡ asShown z e
+  back : shownExpansion (z .n) (writtenForm z (e .mixed) (e .fixed) c) (e .inverted) rows ≡ asShown z e
   unfolding shownExpansion asShown
   back = rw (coefficients-back, blocks-back, r .products-counted, r .literals-counted)
 
@@ -105,9 +106,12 @@ module _ (z : Sizes) (f : ℕ → ℕ) (sized : Sized (z .n) (z .m) (z .k)) (sma
   abbrev answer : Expansion
   answer = answerExpansion (z .family) (z .n) (z .k) f
 
+  bytes-given : (p : ℕ) → p < 2 ^ z .n → f p < 2 ^ 8
+  bytes-given p h = omega (arith, small p h, points-le (z .m) (sized .outputs .1))
+
   pub answer-record : MemberRecord z answer
   answer-record =
-      let minimal = answerExpansion-is (z .family) (z .n) (z .k) f (sized .inputs .1) (sized .mixed .1) in
+      let minimal = answerExpansion-is (z .family) (z .n) (z .k) f (sized .inputs .1) (sized .mixed .1) bytes-given in
       record {
         member = minimal .answer .member;
         long = answer-long;
@@ -115,6 +119,7 @@ module _ (z : Sizes) (f : ℕ → ℕ) (sized : Sized (z .n) (z .m) (z .k)) (sma
         outputs = expansion-coefficients-lt (z .family) (z .n) (z .k) f (sized .inputs .1) (z .m) (sized .mixed .1) small;
         products-counted = minimal .products-counted;
         literals-counted = minimal .literals-counted;
+        mask = expansion-inverted-lt (z .family) (z .n) (z .k) f (sized .inputs .1) (z .m) (sized .mixed .1) small;
       }
     where
       answer-long : length (answerExpansion (z .family) (z .n) (z .k) f .coefficients) ≡ 256
@@ -126,8 +131,8 @@ module _ (z : Sizes) (f : ℕ → ℕ) (sized : Sized (z .n) (z .m) (z .k)) (sma
     go : (j : ℕ) (b : Bool) → ltb j (2 ^ (z .n - z .k)) ≡ b
         → at (answer .blocks) j ≡ only b (bitAnd (at (answer .blocks) j) (shownInputs (z .n) (answer .mixed) (at (answer .coefficients)) j))
     go j true l =
-        let minimal = answerExpansion-is (z .family) (z .n) (z .k) f (sized .inputs .1) (sized .mixed .1) in
-        sym (answer-shown (z .family) (z .n) (z .k) f _ _ _ _ (minimal .answer) j (ltb-true j (2 ^ (z .n - z .k)) l))
+        let minimal = answerExpansion-is (z .family) (z .n) (z .k) f (sized .inputs .1) (sized .mixed .1) bytes-given in
+        sym (answer-shown (z .family) (z .n) (z .k) f _ _ _ _ _ (minimal .answer) j (ltb-true j (2 ^ (z .n - z .k)) l))
     go j false l = expansion-blocks (z .family) (z .n) (z .k) f (sized .inputs .1) j ∙ answer-polarity-zero (z .family) (z .n) (z .k) f j (ltb-false j (2 ^ (z .n - z .k)) l)
 
   whole : asShown z answer ≡ answer
@@ -141,6 +146,7 @@ module _ (z : Sizes) (f : ℕ → ℕ) (sized : Sized (z .n) (z .m) (z .k)) (sma
         fixed = answer .fixed;
         products = answer .products;
         literals = answer .literals;
+        inverted = answer .inverted;
       })
       whole-blocks
 

@@ -1,5 +1,6 @@
 pub mod Rows
 pub mod Form
+pub mod Inv
 pub mod Read
 pub mod Record
 pub mod ReadBack

@@ -1,5 +1,5 @@
--- What a listing beside a table means: the numbers of its first line and its rows, or the refusal that it meets. Document 02, W-201,
--- W-202 and W-203.
+-- What a listing beside a table means: the numbers of its first line, the mask of its second and its rows, or the refusal that it meets. Document 02,
+-- W-201, W-202, W-203 and W-205.
 use mathlib.Core.Bool.{Bool, true, false, cond, _&&_}
 use mathlib.Core.List.{List, [], _∷_}
 use Prim.Native.Nat.{ℕ}
@@ -11,17 +11,20 @@ use Rattle.expansions.specs.declared.families.Family.the-variants.{One, Two}
 use Rattle.expansions.specs.Costs.{products, literals}
 use Rattle.listings.specs.Parts.{parts}
 use Rattle.lines.specs.declared.rows.Grammar.{Grammar}
+use Rattle.lines.specs.Fields.{andThen}
 use Rattle.lines.specs.Rows as lines
 use Rattle.table_texts.specs.declared.sizes.Sizes.{Sizes}
 use Rattle.listing_texts.specs.declared.form.Form.{Form}
 use Rattle.listing_texts.specs.declared.form.FirstLine.{FirstLine}
 use Rattle.listing_texts.specs.declared.form.FirstLine.the-variants.{States, Wrong}
 use Rattle.listing_texts.specs.Form.{firstLine}
+use Rattle.listing_texts.specs.Inv.{invSaid}
 use Rattle.listing_texts.specs.Rows.{coefficientIn}
 
--- the numbers of a first line with the rows of the `term` lines; or "11 with its line in the listing" and "12 with line 1"
+-- the numbers of a first line with the inversion mask of the second and the rows of the `term` lines; or "11 with its line in the listing" and "12
+-- with line 1"
 pub data ListingReading : Type 0 where
-  shown : (form : Form) (rows : List ℕ) → ListingReading
+  shown : (form : Form) (inverted : ℕ) (rows : List ℕ) → ListingReading
   refused : (number line : ℕ) → ListingReading
 
 -- ---- the judgement
@@ -46,9 +49,9 @@ countsRight n f rows = eqb (f .products) (products n (coefficientIn rows)) && eq
 
 -- "A broken listing line, or a term whose t is not above the one before, is 11 with its line in the listing, and so is an end that refusal 6
 -- would catch in a table text"; the counts are judged "after every line has passed"
-unfoldable pub linesJudged : ℕ → Form → lines.RowsRead → ListingReading
-linesJudged n f (lines.rows values) = cond (countsRight n f values) (shown f values) (refused 12 1)
-linesJudged n f (lines.refused number line) = refused 11 line
+unfoldable pub linesJudged : ℕ → Form → ℕ → lines.RowsRead → ListingReading
+linesJudged n f v (lines.rows values) = cond (countsRight n f values) (shown f v values) (refused 12 1)
+linesJudged n f v (lines.refused number line) = refused 11 line
 
 -- a broken first line is 11; unlike sizes, or another family, are 12 "before any later line is read"
 abbrev pub firstJudged : FirstLine → Sizes → (Form → ListingReading) → ListingReading
@@ -59,11 +62,17 @@ firstJudged Wrong z next = refused 11 1
 abbrev pub grammar : Sizes → Grammar
 grammar z = lines.listingGrammar (z .n) (z .m)
 
+-- the second line, "`inv` and m characters", and the lines after it; a second line that is broken, is not there, or has no byte 10 at its end is 11
+unfoldable pub fromSecond : Sizes → Form → List ℕ → List (List ℕ) → ListingReading
+fromSecond z f l [] = refused 11 2
+fromSecond z f l (l′ ∷ ls) =
+    andThen (invSaid (z .m) l) (refused 11 2)
+    (λ v. linesJudged (z .n) f v (lines.laterLines (lines.rowLine (grammar z)) (z .n) 3 0 (replicate 256 0) l′ ls))
+
 -- the first line, and the lines after it; a first line that no byte 10 ends is 11
 unfoldable pub allLines : Sizes → List ℕ → List (List ℕ) → ListingReading
 allLines z l [] = refused 11 1
-allLines z l (l′ ∷ ls) =
-    firstJudged (firstLine l) z (λ f. linesJudged (z .n) f (lines.laterLines (lines.rowLine (grammar z)) (z .n) 2 0 (replicate 256 0) l′ ls))
+allLines z l (l′ ∷ ls) = firstJudged (firstLine l) z (λ f. fromSecond z f l′ ls)
 
 -- "Read a listing beside its table text": what the bytes of a listing mean beside a table with the sizes z
 unfoldable pub listingReading : Sizes → List ℕ → ListingReading

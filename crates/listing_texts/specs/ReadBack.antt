@@ -13,7 +13,8 @@ use Rattle.membership.specs.Class.{shownInputs}
 use Rattle.search.specs.declared.expansion.Expansion.{Expansion}
 use Rattle.table_texts.specs.declared.sizes.Sizes.{Sizes}
 
--- the record of any member of the class, cheap or not: "256 coefficient places, zero from 2^n on", "bits m to 7 zero", and its own counts
+-- the record of any member of the class, cheap or not: "256 coefficient places, zero from 2^n on", "bits m to 7 zero", its own counts, and a mask of
+-- its m outputs
 pub record MemberRecord (z : Sizes) (e : Expansion) : Type 0 where
   pub member : Member (z .n) (z .k) (e .mixed) (e .fixed) (at (e .blocks))
   pub long : length (e .coefficients) ≡ 256
@@ -21,6 +22,7 @@ pub record MemberRecord (z : Sizes) (e : Expansion) : Type 0 where
   pub outputs : (t : ℕ) → at (e .coefficients) t < 2 ^ z .m
   pub products-counted : e .products ≡ products (z .n) (at (e .coefficients))
   pub literals-counted : e .literals ≡ literals (z .n) (at (e .coefficients))
+  pub mask : e .inverted < 2 ^ z .m
 
 -- a record "as far as its cubes show it": each block polarity has the inputs of M that a cube of the block shows, and 0 elsewhere
 unfoldable pub asShown : Sizes → Expansion → Expansion
@@ -32,4 +34,5 @@ asShown z e =
       fixed = e .fixed;
       products = e .products;
       literals = e .literals;
+      inverted = e .inverted;
     }

@@ -13,9 +13,9 @@ use Rattle.listing_texts.specs.declared.read.ListingAnswer.the-variants.
 use Rattle.listing_texts.specs.Rows.{coefficientIn, complementedIn, shownBlocks}
 use Rattle.listing_texts.specs.Read.{ListingReading, shown, refused}
 
--- the record of a first line and the rows
-unfoldable pub shownExpansion : ℕ → Form → List ℕ → Expansion
-shownExpansion n f rows =
+-- the record of a first line, an inversion mask and the rows
+unfoldable pub shownExpansion : ℕ → Form → ℕ → List ℕ → Expansion
+shownExpansion n f v rows =
     record {
       coefficients = tabulate 256 (coefficientIn rows);
       blocks = shownBlocks n (f .mixed) (complementedIn rows);
@@ -23,13 +23,14 @@ shownExpansion n f rows =
       fixed = f .fixed;
       products = f .products;
       literals = f .literals;
+      inverted = v;
     }
 
 -- what is handed up for a listing that passes: the record, with the inputs that each cube shows complemented
-unfoldable pub shownRead : ℕ → Form → List ℕ → ListingRead
-shownRead n f rows = record { answer = Given; expansion = shownExpansion n f rows; complements = tabulate 256 (complementedIn rows) }
+unfoldable pub shownRead : ℕ → Form → ℕ → List ℕ → ListingRead
+shownRead n f v rows = record { answer = Given; expansion = shownExpansion n f v rows; complements = tabulate 256 (complementedIn rows) }
 
 -- what the reading hands up; under a refusal the empty record
 unfoldable pub handedUp : Sizes → ListingReading → ListingRead
-handedUp z (shown f rows) = shownRead (z .n) f rows
+handedUp z (shown f v rows) = shownRead (z .n) f v rows
 handedUp z (refused number line) = record { answer = Refused number line; expansion = emptyExpansion (z .k); complements = replicate 256 0 }

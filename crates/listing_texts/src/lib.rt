@@ -3,5 +3,6 @@
 // (proofs/Exactness). Beside a `K` table none passes (proofs/BesideKronecker).
 pub mod beside;
 mod form;
+mod inv;
 pub mod read;
 mod shown;

@@ -3,6 +3,7 @@
 use crate::form::FirstLine;
 use crate::form::Form;
 use crate::form::first_line;
+use crate::inv::inv_line;
 use crate::shown::bytes_of;
 use crate::shown::count_rows;
 use crate::shown::shown_blocks;
@@ -13,6 +14,7 @@ use lines::judge::RowsAnswer;
 use lines::judge::judge_rows;
 use lines::rows::Grammar;
 use lines::rows::Kind;
+use lines::values::Number;
 use numbers::refusals::judge_sizes;
 use search::expansion::Expansion;
 use table_texts::sizes::Sizes;
@@ -24,7 +26,7 @@ ghost use Rattle.lines.specs.Rows as rowsRead;
 ghost use Rattle.lines.specs.inner.Steps.{rowsAt, Within};
 ghost use Rattle.listing_texts.specs.Read.{sameFamily, alike, linesJudged, grammar, listingReading};
 ghost use Rattle.listing_texts.specs.Record.{shownRead, handedUp};
-ghost use Rattle.listing_texts.specs.inner.Judging.{standsFor};
+ghost use Rattle.listing_texts.specs.inner.Judging.{standsFor, secondAt};
 
 // The reading's answer. A refusal has document 02's number and the line in the listing.
 pub enum ListingAnswer {
@@ -39,9 +41,9 @@ pub struct ListingRead {
     pub complements: [u8; Expansion::PLACES],
 }
 
-// What judging leads to: the numbers of the first line, or a refusal.
+// What judging leads to: the numbers of the first line with the mask of the second, or a refusal.
 enum Judged {
-    Passed(Form),
+    Passed(Form, usize),
     Refused { number: usize, line: usize },
 }
 
@@ -83,9 +85,9 @@ fn alike(table: Sizes, listing: Sizes) -> bool
 }
 
 // Judges the counts that the first line states, once every line has passed.
-fn judge_counts(n: usize, form: Form, rows: &[u16; PLACES]) -> Judged
+fn judge_counts(n: usize, form: Form, inverted: usize, rows: &[u16; PLACES]) -> Judged
     requires { ⌜ n ≤ 8 ⌝ }
-    ensures { λ r. ⌜ standsFor r (now (rows .entry)) ≡ linesJudged n form (rowsRead.rows (now (rows .entry))) ⌝ }
+    ensures { λ r. ⌜ standsFor r (now (rows .entry)) ≡ linesJudged n form inverted (rowsRead.rows (now (rows .entry))) ⌝ }
 {
     let counted = count_rows(n, rows);
     if form.products != counted.products {
@@ -100,19 +102,20 @@ fn judge_counts(n: usize, form: Form, rows: &[u16; PLACES]) -> Judged
             line: 1,
         };
     }
-    Judged::Passed(form)
+    Judged::Passed(form, inverted)
 }
 
-// Judges the lines after the first, and fills the rows, which come all zero.
+// Judges the lines after the second, and fills the rows, which come all zero.
 fn judge_terms(
     listing: &[u8],
     start: Cursor,
     sizes: Sizes,
     form: Form,
+    inverted: usize,
     rows: &mut [u16; PLACES],
 ) -> Judged
     requires { ⌜ (Within (now listing) start) × (sizes .n ≤ 8) × (sizes .m ≤ 8) ⌝ }
-    ensures { λ r. ⌜ standsFor r (now (rows .exit)) ≡ linesJudged (sizes .n) form (rowsAt (now (listing .entry)) (grammar sizes) start 0 (now (rows .entry))) ⌝ }
+    ensures { λ r. ⌜ standsFor r (now (rows .exit)) ≡ linesJudged (sizes .n) form inverted (rowsAt (now (listing .entry)) (grammar sizes) start 0 (now (rows .entry))) ⌝ }
 {
     let grammar = Grammar {
         kind: Kind::Listing,
@@ -120,9 +123,38 @@ fn judge_terms(
         m: sizes.m,
     };
     match judge_rows(listing, start, grammar, rows) {
-        RowsAnswer::Done => judge_counts(sizes.n, form, rows),
+        RowsAnswer::Done => judge_counts(sizes.n, form, inverted, rows),
         RowsAnswer::Refused { number, line } => Judged::Refused { number: 11, line },
     }
+}
+
+// Judges the listing from its second line on, which says the mask, and fills the rows, which come all zero.
+fn judge_from_second(
+    listing: &[u8],
+    start: Cursor,
+    sizes: Sizes,
+    form: Form,
+    rows: &mut [u16; PLACES],
+) -> Judged
+    requires { ⌜ (Within (now listing) start) × (start .line ≡ 2) × (sizes .n ≤ 8) × (sizes .m ≤ 8) × (now rows ≡ replicate 256 0) ⌝ }
+    ensures { λ r. ⌜ standsFor r (now (rows .exit)) ≡ secondAt sizes form (now (listing .entry)) (start .at) ⌝ }
+{
+    let from = start.at;
+    let stop = start.seek(listing, b'\n');
+    let to = stop.at;
+    if to == listing.len() {
+        return Judged::Refused {
+            number: 11,
+            line: 2,
+        };
+    }
+    let Number::Is(inverted) = inv_line(sizes.m, &listing[from..to]) else {
+        return Judged::Refused {
+            number: 11,
+            line: 2, // the line is there, and broken
+        };
+    };
+    judge_terms(listing, stop.next_line(), sizes, form, inverted, rows)
 }
 
 // Judges the listing from its first line on, and fills the rows, which come all zero.
@@ -150,13 +182,13 @@ fn judge_listing(sizes: Sizes, listing: &[u8], rows: &mut [u16; PLACES]) -> Judg
             line: 1,
         };
     }
-    judge_terms(listing, stop.next_line(), sizes, form, rows)
+    judge_from_second(listing, stop.next_line(), sizes, form, rows)
 }
 
 // The record of a listing that passed.
-fn shown_listing(n: usize, form: Form, rows: &[u16; PLACES]) -> ListingRead
-    requires { ⌜ (n ≤ 8) × ((t : ℕ) → at (now rows) t < 65536) ⌝ }
-    ensures { λ r. ⌜ r ≡ shownRead n form (now (rows .entry)) ⌝ }
+fn shown_listing(n: usize, form: Form, inverted: usize, rows: &[u16; PLACES]) -> ListingRead
+    requires { ⌜ (n ≤ 8) × (inverted < 256) × ((t : ℕ) → at (now rows) t < 65536) ⌝ }
+    ensures { λ r. ⌜ r ≡ shownRead n form inverted (now (rows .entry)) ⌝ }
 {
     let complements = bytes_of(rows, 8);
     let expansion = Expansion {
@@ -166,6 +198,7 @@ fn shown_listing(n: usize, form: Form, rows: &[u16; PLACES]) -> ListingRead
         fixed: form.fixed,
         products: form.products,
         literals: form.literals,
+        inverted: inverted as u8,
     };
     ListingRead {
         answer: ListingAnswer::Given,
@@ -174,15 +207,15 @@ fn shown_listing(n: usize, form: Form, rows: &[u16; PLACES]) -> ListingRead
     }
 }
 
-// Reads a listing beside a table with these sizes. It hands up the record that the lines show, a polarity that no cube shows being plain,
-// and the inputs that each cube shows complemented. It refuses a bad line by 11, with the line, and a family, sizes or counts that are not
-// the table's or the lines' by 12, with line 1; then the record is the empty one.
+// Reads a listing beside a table with these sizes. It hands up the record that the lines show, mask and all, a polarity that no cube shows being
+// plain, and the inputs that each cube shows complemented. It refuses a bad line by 11, with the line, and a family, sizes or counts that are
+// not the table's or the lines' by 12, with line 1; then the record is the empty one.
 pub fn read_listing(sizes: Sizes, listing: &[u8]) -> ListingRead
     ensures { λ r. ⌜ r ≡ handedUp sizes (listingReading sizes (now (listing .entry))) ⌝ }
 {
     let mut rows = [0u16; PLACES];
     match judge_listing(sizes, listing, &mut rows) {
-        Judged::Passed(form) => shown_listing(sizes.n, form, &rows),
+        Judged::Passed(form, inverted) => shown_listing(sizes.n, form, inverted, &rows),
         Judged::Refused { number, line } => ListingRead {
             answer: ListingAnswer::Refused { number, line },
             expansion: Expansion::empty(sizes.k),

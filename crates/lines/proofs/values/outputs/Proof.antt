@@ -1,120 +1,35 @@
--- `outputs` meets its contract. The invariant: the characters from `left` on say `value`.
-use mathlib.Core.Path.{_≡_, sym, _∙_}
-use Prim.Native.Nat.{_≤_, _-_}
-use native.Mathlib.Omega.{arith}
+-- `outputs` meets its contract, by that of `mask`.
+use mathlib.Core.Path.{sym, _∙_}
 use borrow.Author.Needs.{needs}
 use borrow.Author.Tests.{eq-eqb, ne-eqb}
-use lib.ListN.{length, drop}
-use lib.Seq.{drop-length}
-use Rattle.lines.specs.declared.values.Number.the-variants.{Is}
-use Rattle.lines.specs.Fields.{digit, bits, outputs}
-use Rattle.lines.proofs.Numbers.{digit-lt, bits-step, bits-byte, outputs-wrong, outputs-bits}
+use Rattle.lines.specs.Fields.{outputs}
 use Rattle.lines.proofs.values.outputs.Statement.{statement}
 use Rattle.lines.proofs.values.outputs.Tie as tie
 
-abbrev Inv-loop : tie.InvT-loop
-Inv-loop m field value₀ left₀ value left = (left ≤ length field) × (length field ≤ 8) × (m ≡ length field) × (bits (drop left field) ≡ Is value)
+mask-requires : tie.Need-mask-requires
+mask-requires c κs = search needs
 
-abbrev μ-loop : tie.MeasureT-loop
-μ-loop m field value₀ left₀ value left = left
+enum-known-value : tie.Need-enum-known-value
+enum-known-value c = search needs
 
-returns : tie.Need-returns Inv-loop μ-loop
-unfolding outputs
-returns c = rw (ne-eqb _ _ (c .if1 .taken))
-
-loop-holds : tie.Need-loop-holds Inv-loop μ-loop
-unfolding bits
-loop-holds c =
-    let a = c .before .before .args in
-    (omega arith, omega arith, sym (c .if1 .left), rw (← c .if1 .left, drop-length (a .field .now)))
-
-sub-digit : tie.Need-sub-digit Inv-loop μ-loop
-sub-digit c = search needs
-
-shared-slice-read-digit : tie.Need-shared-slice-read-digit Inv-loop μ-loop
-shared-slice-read-digit c = search needs
-
-digit-requires : tie.Need-digit-requires Inv-loop μ-loop
-digit-requires c κs = search needs
-
-enum-known-x : tie.Need-enum-known-x Inv-loop μ-loop
-enum-known-x c = search needs
-
-enum-told : tie.Need-enum-told Inv-loop μ-loop
+enum-told : tie.Need-enum-told
 enum-told c = search needs
 
-returns-2 : tie.Need-returns-2 Inv-loop μ-loop
+returns : tie.Need-returns
+unfolding outputs
+returns c = sym (rw (sym (c .before .before .mask .ensures) ∙ c .enum-told .given .1))
+
+returns-2 : tie.Need-returns-2
+unfolding outputs
 returns-2 c =
-    let a = c .before .before .before .before .before .before .before .before .args in
-    let l = c .before .before .before .before .before .loop in
-    rw (l .inv .2, outputs-wrong (a .field .now) (l .left - 1) (omega arith) (sym (c .before .before .digit .ensures) ∙ c .enum-told .given .1))
+    let said = c .before .before in
+    sym (rw (sym (said .before .before .mask .ensures) ∙ said .value .given .1, eq-eqb _ _ (c .if1 .taken)))
 
-mul-value : tie.Need-mul-value Inv-loop μ-loop
-mul-value c =
-    let a = c .before .before .before .before .before .before .before .before .before .args in
-    let l = c .before .before .before .before .before .before .loop in
-    omega (arith, bits-byte (a .field .now) (l .left) (l .value) (l .inv .1) (l .inv .3))
-
-add-value : tie.Need-add-value Inv-loop μ-loop
-add-value c =
-    let a = c .before .before .before .before .before .before .before .before .before .args in
-    let l = c .before .before .before .before .before .before .loop in
-    omega (
-      arith,
-      bits-byte (a .field .now) (l .left) (l .value) (l .inv .1) (l .inv .3),
-      digit-lt 2 _ _ (sym (c .before .before .before .digit .ensures) ∙ c .before .x .given .1),
-    )
-
-sub-left : tie.Need-sub-left Inv-loop μ-loop
-sub-left c = search needs
-
-loop-less : tie.Need-loop-less Inv-loop μ-loop
-loop-less c = search needs
-
-loop-again : tie.Need-loop-again Inv-loop μ-loop
-loop-again c =
-    let a = c .before .before .before .before .before .before .before .before .before .args in
-    let l = c .before .before .before .before .before .before .loop in (
-      omega arith,
-      l .inv .1,
-      l .inv .2,
-      bits-step (a .field .now) (l .left) _ (l .value) (c .before .before .before .before .before .loop-test .taken) (l .inv .0)
-          (sym (c .before .before .before .digit .ensures) ∙ c .before .x .given .1)
-          (l .inv .3),
-    )
-
-returns-3 : tie.Need-returns-3 Inv-loop μ-loop
+returns-3 : tie.Need-returns-3
+unfolding outputs
 returns-3 c =
-    let a = c .before .before .before .before .before .args in
-    let l = c .before .before .loop in
-    let none : l .left ≡ 0 = omega arith in
-    sym (rw (l .inv .2, outputs-bits (a .field .now) (l .value) (rw none at (l .inv .3)), eq-eqb _ _ (c .if2 .taken)))
-
-returns-4 : tie.Need-returns-4 Inv-loop μ-loop
-returns-4 c =
-    let a = c .before .before .before .before .before .args in
-    let l = c .before .before .loop in
-    let none : l .left ≡ 0 = omega arith in
-    sym (rw (l .inv .2, outputs-bits (a .field .now) (l .value) (rw none at (l .inv .3)), ne-eqb _ _ (c .if2 .left)))
+    let said = c .before .before in
+    sym (rw (sym (said .before .before .mask .ensures) ∙ said .value .given .1, ne-eqb _ _ (c .if1 .left)))
 
 pub outputs-spec : {M : Type 1} → statement M
-outputs-spec =
-    tie.close
-    (tie.spec
-    Inv-loop
-    μ-loop
-    returns
-    loop-holds
-    sub-digit
-    shared-slice-read-digit
-    digit-requires
-    enum-known-x
-    enum-told
-    returns-2
-    mul-value
-    add-value
-    sub-left
-    loop-less
-    loop-again
-    returns-3
-    returns-4)
+outputs-spec = tie.close (tie.spec mask-requires enum-known-value enum-told returns returns-2 returns-3)

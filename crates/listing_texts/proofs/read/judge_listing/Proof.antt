@@ -74,14 +74,19 @@ next-line-requires c κs =
     let test = c .before .before .before .before .before .before .before in
     omega (arith, before-end test, test .before .before .new .ensures .1, test .before .seek .ensures .1)
 
-judge-terms-requires : tie.Need-judge-terms-requires
-judge-terms-requires c κs =
+judge-from-second-requires : tie.Need-judge-from-second-requires
+judge-from-second-requires c κs =
     let else = c .before .before in
     let test = else .before .before .before .before .before .before .before in
     let limits = alike-sizes _ _ (sym (else .before .alike .ensures) ∙ not-false _ (else .if2 .left)) .0 in
     let at = c .before .next-line .ensures .0 in
-    let line = second-line (c .before) in
-    (record { inside = omega (arith, before-end test, at); counted = omega (arith, at) }, limits .inputs .1, limits .outputs .1)
+    let line = second-line (c .before) in (
+      record { inside = omega (arith, before-end test, at); counted = omega (arith, at) },
+      line,
+      limits .inputs .1,
+      limits .outputs .1,
+      test .before .before .before .before .pre,
+    )
 
 returns-4 : tie.Need-returns-4
 returns-4 c =
@@ -91,10 +96,8 @@ returns-4 c =
     let test = form .before .before .before .before in
     let says = sym (form .before .before .first-line .ensures) ∙ form .form .given .1 in
     let same = sym (else .before .alike .ensures) ∙ not-false _ (else .if2 .left) in
-    let zeros = test .before .before .before .before .pre in
-    c .judge-terms .ensures
-    ∙ rw (next .next-line .ensures .0, second-line next, zeros)
-    (sym (listing-judged _ _ (first-stop (test .before)) _ (before-end test) ∙ rw (says, same)))
+    c .judge-from-second .ensures
+    ∙ rw (next .next-line .ensures .0) (sym (listing-judged _ _ (first-stop (test .before)) _ (before-end test) ∙ rw (says, same)))
 
 pub judge-listing-spec : {M : Type 1} → statement M
 judge-listing-spec =
@@ -111,5 +114,5 @@ judge-listing-spec =
     alike-requires
     returns-3
     next-line-requires
-    judge-terms-requires
+    judge-from-second-requires
     returns-4)

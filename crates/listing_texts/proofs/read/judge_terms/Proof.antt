@@ -24,14 +24,14 @@ unfolding rowsRead.standsFor
 returns c =
     let a = c .before .before .before .before .before .before .before .args in
     let read = rw (c .before .before .enum-told .given .1) at (c .before .before .before .before .judge-rows .ensures) in
-    c .judge-counts .ensures ∙ ap (linesJudged (a .sizes .n) (a .form)) read
+    c .judge-counts .ensures ∙ ap (linesJudged (a .sizes .n) (a .form) (a .inverted)) read
 
 returns-2 : tie.Need-returns-2
 unfolding rowsRead.standsFor linesJudged standsFor
 returns-2 c =
     let a = c .before .before .before .before .before .before .args in
     let read = rw (c .before .number .given .1) at (c .before .before .before .judge-rows .ensures) in
-    ap (linesJudged (a .sizes .n) (a .form)) read
+    ap (linesJudged (a .sizes .n) (a .form) (a .inverted)) read
 
 pub judge-terms-spec : {M : Type 1} → statement M
 judge-terms-spec =
