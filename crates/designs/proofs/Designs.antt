@@ -1,5 +1,5 @@
 -- Every row of the table of marked designs holds (`designs-hold`): one test over all rows, which the checker computes, and a law that turns
--- it into the fact at each. Of the last design's rows it follows that a larger k can be dearer (`larger-k-dearer`).
+-- it into the fact at each. Of the rows of W-207's design it follows that a larger k can be dearer (`larger-k-dearer`).
 use mathlib.Core.Path.{_≡_}
 use mathlib.Core.Bool.{Bool, true, _&&_}
 use mathlib.Core.List.{List, [], _∷_, List·Memᴰ, List·Memᴰ·not-nil, List·Memᴰ·cases-cons, List·Memᴰ·head, List·Memᴰ·tail}
@@ -19,11 +19,11 @@ use Rattle.expansions.specs.Split.{putDigit, lowDigit, dropDigit, gather, sprea
 use Rattle.expansions.specs.Members.{polarity}
 use Rattle.expansions.specs.declared.families.Family.the-variants.{One}
 use Rattle.expansions.specs.Costs.{counted, products, literals}
-use Rattle.expansions.specs.Rules.{weight}
+use Rattle.expansions.specs.Rules.{weight, price}
 use Rattle.expansions.specs.Least.{better, firstLeast, chosen}
 use Rattle.expansions.specs.BlockTable.{entry}
 use Rattle.expansions.specs.Answers.{blockFunction, memberCoefficient, blockCharge, leastPolarity, pairCharge, validPair, leastPair}
-use Rattle.expansions.specs.Answers.{answerPair, answerMixed, answerFixed, answerPolarity, answerCoefficient}
+use Rattle.expansions.specs.Answers.{answerPair, answerMixed, answerFixed, answerPolarity, expandedCoefficient, answerInverted, withoutConstant, answerCoefficient}
 use Rattle.expansions.specs.kronecker.Letters.{literalOf, literalTrue, literalCount, lettersOf}
 use Rattle.expansions.specs.kronecker.Steps.{stepValue, without, kroneckerStep, kroneckerCoefficient}
 use Rattle.expansions.specs.kronecker.Costs.{termLiterals, kroneckerLiterals, kroneckerCharge}
@@ -33,11 +33,11 @@ use Rattle.search.specs.Expansion.{answerExpansion}
 use Rattle.kronecker.specs.Expansion.{answerKronecker}
 use Rattle.listings.specs.Parts.{parts, fields, bytes, same}
 use Rattle.numbers.specs.Nonzero.{ifNonzero, overNonzero}
-use Rattle.listings.specs.Listing.{tabbed, line, descending, digitCount, decimal, cubeByte, cube, outputBytes, formWord, formLine, cubeLine, listingWith, listing}
+use Rattle.listings.specs.Listing.{tabbed, line, descending, digitCount, decimal, cubeByte, cube, outputBytes, formWord, formLine, invLine, cubeLine, listingWith, listing}
 use Rattle.listings.proofs.Words.{same-equal}
 use Rattle.listings.specs.Meaning.{allows, cubeTrue, literalsIn, outputsSaid, finished, linesOf, ofTerm, overLines, overTerms}
-use Rattle.listings.specs.Meaning.{listingValue, listingProducts, listingLiterals, numberSaid, firstNumbers}
-use Rattle.lines.specs.Fields.{digit, oneDigit, digitsFrom, wellFormed, number, bits, outputs, headed, familyOf}
+use Rattle.listings.specs.Meaning.{ofInv, listingInverted, listingValue, listingProducts, listingLiterals, numberSaid, firstNumbers}
+use Rattle.lines.specs.Fields.{digit, oneDigit, digitsFrom, wellFormed, number, bits, mask, outputs, headed, familyOf}
 use Rattle.lines.specs.Rows.{onRow, rowLine, unfinished, ended, laterLines}
 use Rattle.listings.specs.Kronecker.{letterByte, letterBytes, literalByte, kroneckerCube, kroneckerLine, kroneckerListing}
 use Rattle.table_texts.specs.Design.{designRefusal}
@@ -46,7 +46,7 @@ use Rattle.table_texts.specs.Read.{withDesign, judgedFirst, allLines, reading}
 use Rattle.text.specs.Compile.{answerListing}
 use Rattle.text.specs.Print.{refusedLine, printedFor, printed}
 use Rattle.designs.specs.Designs.{costOf, termsBelow, computed, Design, states, Holds, markedDesigns}
-use Rattle.designs.specs.Designs.{orTable, zeroTable, oneTable, pointTable, withoutTable, printedTable, splitTable, plainTable, endsTable, oneOfThreeTable, familiesTable, tieTable}
+use Rattle.designs.specs.Designs.{orTable, zeroTable, oneTable, pointTable, withoutTable, dearerTable, oppositeTable, printedTable, splitTable, plainTable, endsTable, oneOfThreeTable, familiesTable, tieTable}
 
 -- ---- the test
 
@@ -75,17 +75,17 @@ all-hold (e ∷ ds) t d m = go (all-hold ds (and-right (agrees e) (allAgree ds) 
 
 all-agree : T (allAgree markedDesigns)
 unfolding same agrees allAgree markedDesigns computed termsBelow orTable zeroTable oneTable pointTable withoutTable printedTable
-    splitTable plainTable endsTable oneOfThreeTable familiesTable tieTable
+    dearerTable oppositeTable splitTable plainTable endsTable oneOfThreeTable familiesTable tieTable
     foldBelow inside pack only tabulate tableRefusal sizesRefusal onesIn ones xorInside coefficient entry
     putDigit lowDigit dropDigit gather spread outside join polarity counted weight products literals better firstLeast chosen
-    blockFunction memberCoefficient blockCharge leastPolarity pairCharge validPair leastPair
-    answerPair answerMixed answerFixed answerPolarity answerCoefficient answerExpansion
+    blockFunction memberCoefficient price blockCharge leastPolarity pairCharge validPair leastPair
+    answerPair answerMixed answerFixed answerPolarity expandedCoefficient answerInverted withoutConstant answerCoefficient answerExpansion
     literalOf literalTrue literalCount lettersOf stepValue without kroneckerStep kroneckerCoefficient termLiterals kroneckerLiterals kroneckerCharge
     kindCharge answerKind kronecker.answerCoefficient answerKronecker
     letterByte letterBytes literalByte kroneckerCube kroneckerLine kroneckerListing designRefusal
-    parts fields bytes tabbed line descending digitCount decimal cubeByte cube outputBytes formWord formLine cubeLine ifNonzero overNonzero listingWith listing
-    allows cubeTrue literalsIn outputsSaid finished linesOf ofTerm overLines overTerms listingValue listingProducts listingLiterals
-    numberSaid firstNumbers digit oneDigit kindOf digitsFrom wellFormed number bits outputs headed familyOf tableWord firstLine onRow rowLine
+    parts fields bytes tabbed line descending digitCount decimal cubeByte cube outputBytes formWord formLine invLine cubeLine ifNonzero overNonzero listingWith listing
+    allows cubeTrue literalsIn outputsSaid finished linesOf ofTerm overLines overTerms ofInv listingInverted listingValue listingProducts listingLiterals
+    numberSaid firstNumbers digit oneDigit kindOf digitsFrom wellFormed number bits mask outputs headed familyOf tableWord firstLine onRow rowLine
     unfinished ended laterLines withDesign judgedFirst allLines reading answerListing refusedLine printedFor printed
 all-agree = tt
 
@@ -94,17 +94,17 @@ designs-hold = all-hold markedDesigns all-agree
 
 -- ---- a larger k can be dearer
 
-module _ (k cost : ℕ) where
+module _ (k cost literals : ℕ) where
   row : Design
-  row = states (costOf One 2 k withoutTable) (cost ∷ 3 ∷ [])
+  row = states (costOf One 3 k dearerTable) (cost ∷ literals ∷ [])
 
-  row-products : List·Memᴰ row markedDesigns → products 2 (answerCoefficient One 2 k (at withoutTable)) ≡ cost
+  row-products : List·Memᴰ row markedDesigns → products 3 (answerCoefficient One 3 k (at dearerTable)) ≡ cost
   unfolding row computed
   row-products m = let costs = designs-hold row m in cc
 
-pub larger-k-dearer : products 2 (answerCoefficient One 2 1 (at withoutTable)) < products 2 (answerCoefficient One 2 2 (at withoutTable))
+pub larger-k-dearer : products 3 (answerCoefficient One 3 2 (at dearerTable)) < products 3 (answerCoefficient One 3 3 (at dearerTable))
 unfolding markedDesigns row
 larger-k-dearer =
-    let one = row-products 1 2 (search (List·Memᴰ·head, List·Memᴰ·tail) depth 20) in
-    let two = row-products 2 3 (search (List·Memᴰ·head, List·Memᴰ·tail) depth 20) in
+    let two = row-products 2 2 5 (search (List·Memᴰ·head, List·Memᴰ·tail) depth 30) in
+    let three = row-products 3 3 6 (search (List·Memᴰ·head, List·Memᴰ·tail) depth 30) in
     omega arith

@@ -1,5 +1,5 @@
 -- Document 01, "Marked designs", its printed example, the limits that it names and some worked texts and listings, with designs for document 02's
--- `K` and for its two families, as one table: "The marked designs form one proved table over the definitions with a shared statement". A row is a
+-- `K`, for its two families and for its inverters, as one table: "The marked designs form one proved table over the definitions with a shared statement". A row is a
 -- question about the definitions and the numbers that answer it; bytes are numbers too. The one statement is that they are equal, at every row
 -- (proofs/Designs, `designs-hold`).
 use mathlib.Core.List.{List, [], _∷_, _++_}
@@ -11,7 +11,7 @@ use Rattle.numbers.specs.Bytes.{at, tabulate}
 use Rattle.algebra.specs.Coefficients.{coefficient}
 use Rattle.expansions.specs.Costs.{products, literals}
 use Rattle.expansions.specs.BlockTable.{entry}
-use Rattle.expansions.specs.Answers.{answerMixed, answerFixed, answerCoefficient}
+use Rattle.expansions.specs.Answers.{answerInverted, answerMixed, answerFixed, withoutConstant, answerCoefficient}
 use Rattle.expansions.specs.declared.families.Family.{Family}
 use Rattle.expansions.specs.declared.families.Family.the-variants.{One, Two}
 use Rattle.expansions.specs.declared.kinds.Kind.{Kind}
@@ -33,11 +33,11 @@ use Rattle.text.specs.Print.{printed}
 pub data Asked : Type 0 where
   -- the terms of a table of n inputs at the polarity w
   termsAt : (n w : ℕ) → List ℕ → Asked
-  -- how many terms these are, and their literals: the products and the literals of the fixed-polarity expansion
+  -- how many terms these are besides the constant, and their literals: the products and the literals of the fixed-polarity expansion with inverters
   costAt : (n w : ℕ) → List ℕ → Asked
   -- entry (g, φ) of the block table
   entryAt : (g φ : ℕ) → Asked
-  -- M, i, products and literals of the family's answer for a table of n inputs with k mixed
+  -- M, i, products, literals and the inversion mask of the family's answer for a table of n inputs with k mixed
   answerFor : Family → (n k : ℕ) → List ℕ → Asked
   -- its products and literals
   costOf : Family → (n k : ℕ) → List ℕ → Asked
@@ -99,9 +99,9 @@ meaning (refused number line) = refusal number line
 -- the numbers that the definitions give
 unfoldable pub computed : Asked → List ℕ
 computed (termsAt n w table) = termsBelow (2 ^ n) (coefficient n w (at table))
-computed (costAt n w table) = products n (coefficient n w (at table)) ∷ literals n (coefficient n w (at table)) ∷ []
+computed (costAt n w table) = products n (withoutConstant (coefficient n w (at table))) ∷ literals n (withoutConstant (coefficient n w (at table))) ∷ []
 computed (entryAt g φ) = entry g φ ∷ []
-computed (answerFor F n k table) = answerMixed F n k (at table) ∷ answerFixed F n k (at table) ∷ costs F n k table
+computed (answerFor F n k table) = answerMixed F n k (at table) ∷ answerFixed F n k (at table) ∷ costs F n k table ++ answerInverted F n k (at table) ∷ []
 computed (costOf F n k table) = costs F n k table
 computed (kindFor n table) = kindCosts n table
 computed (meaningOf text) = meaning (reading (bytes text))
@@ -141,6 +141,22 @@ pointTable = 1 ∷ 0 ∷ []
 unfoldable pub withoutTable : List ℕ
 withoutTable = 0 ∷ 1 ∷ 2 ∷ 1 ∷ []
 
+-- document 02, W-207, "x1x3 on output 0 with x2x3 without x1 on output 1 (n = 3)"
+unfoldable pub dearerTable : List ℕ
+dearerTable = 0 ∷ 0 ∷ 0 ∷ 0 ∷ 0 ∷ 1 ∷ 2 ∷ 1 ∷ []
+
+-- output 0 is x2, output 1 is x2 complemented (n = 2)
+unfoldable pub oppositeTable : List ℕ
+oppositeTable = 2 ∷ 2 ∷ 1 ∷ 1 ∷ []
+
+-- its text
+abbrev pub oppositeText : String
+oppositeText = "table\t2\t2\t0\non\t0\t01\non\t1\t01\non\t2\t10\non\t3\t10\nend\n"
+
+-- its listing: with one output inverted a single product serves both, and of the two masks that do it the lesser is 1
+abbrev pub oppositeListing : String
+oppositeListing = "form\t2\t2\t0\t0\t2\t1\t1\ninv\t10\nterm\t0-\t11\nend\n"
+
 -- the table of the text that is printed in document 01, "Text in, listing out"
 unfoldable pub printedTable : List ℕ
 printedTable = 2 ∷ 1 ∷ 1 ∷ 1 ∷ []
@@ -149,33 +165,37 @@ printedTable = 2 ∷ 1 ∷ 1 ∷ 1 ∷ []
 abbrev pub printedText : String
 printedText = "table\t2\t2\t1\non\t0\t01\non\t1\t10\non\t2\t10\non\t3\t10\nend\n"
 
--- the listing beside it: "it prints"
+-- the listing that document 02, W-205, makes of it: "`inv 10` with the sole term `00 11`, 1 product and 2 literals"
 abbrev pub printedListing : String
-printedListing = "form\t2\t2\t1\t1\t2\t2\t2\nterm\t--\t10\nterm\t00\t11\nend\n"
+printedListing = "form\t2\t2\t1\t1\t2\t1\t2\ninv\t10\nterm\t00\t11\nend\n"
 
 -- the same text for a part of family two
 abbrev pub printedText2 : String
 printedText2 = "table2\t2\t2\t1\non\t0\t01\non\t1\t10\non\t2\t10\non\t3\t10\nend\n"
 
--- its listing, of the same expansion: 2 products and 2 literals are the least charge too, 10
+-- its listing, of the same expansion: 1 product and 2 literals are the least charge too, 6
 abbrev pub printedListing2 : String
-printedListing2 = "form2\t2\t2\t1\t1\t2\t2\t2\nterm\t--\t10\nterm\t00\t11\nend\n"
+printedListing2 = "form2\t2\t2\t1\t1\t2\t1\t2\ninv\t10\nterm\t00\t11\nend\n"
 
 -- the listing of the all-zero table at k = 2
 abbrev pub zeroListing : String
-zeroListing = "form\t2\t1\t2\t3\t0\t0\t0\nend\n"
+zeroListing = "form\t2\t1\t2\t3\t0\t0\t0\ninv\t0\nend\n"
 
 -- the listing of the all-one table at k = 0
 abbrev pub oneListing : String
-oneListing = "form\t2\t1\t0\t0\t0\t1\t0\nterm\t--\t1\nend\n"
+oneListing = "form\t2\t1\t0\t0\t0\t0\t0\ninv\t1\nend\n"
+
+-- the constant 1 beside an inverter, which is not the answer for what it gives: all zero
+abbrev pub cancelledListing : String
+cancelledListing = "form\t2\t1\t0\t0\t0\t1\t0\ninv\t1\nterm\t--\t1\nend\n"
 
 -- the listing of n = 1, only point 0 on
 abbrev pub pointListing : String
-pointListing = "form\t1\t1\t0\t0\t1\t1\t1\nterm\t0\t1\nend\n"
+pointListing = "form\t1\t1\t0\t0\t1\t1\t1\ninv\t0\nterm\t0\t1\nend\n"
 
 -- the listing of OR at k = 0 and i = 0, which is not its answer
 abbrev pub orListing : String
-orListing = "form\t2\t1\t0\t0\t0\t3\t4\nterm\t-1\t1\nterm\t1-\t1\nterm\t11\t1\nend\n"
+orListing = "form\t2\t1\t0\t0\t0\t3\t4\ninv\t0\nterm\t-1\t1\nterm\t1-\t1\nterm\t11\t1\nend\n"
 
 -- output 0 is x2 complemented, output 1 is x1 with x2 (n = 2): x2 is taken the Shannon way
 unfoldable pub splitTable : List ℕ
@@ -201,34 +221,35 @@ endsTable = 1 ∷ 0 ∷ 0 ∷ 0 ∷ 0 ∷ 0 ∷ 0 ∷ 2 ∷ []
 unfoldable pub oneOfThreeTable : List ℕ
 oneOfThreeTable = 0 ∷ 1 ∷ 1 ∷ 0 ∷ 1 ∷ 0 ∷ 0 ∷ 0 ∷ []
 
--- exactly two of x1, x2, x3 on output 0, and x1 and x4 with x2 or x3 on output 1 (n = 4): the families choose differently
+-- a table of four inputs on which the families choose differently
 unfoldable pub familiesTable : List ℕ
-familiesTable = 0 ∷ 0 ∷ 0 ∷ 1 ∷ 0 ∷ 1 ∷ 1 ∷ 0 ∷ 0 ∷ 0 ∷ 0 ∷ 3 ∷ 0 ∷ 3 ∷ 1 ∷ 2 ∷ []
+familiesTable = 0 ∷ 0 ∷ 0 ∷ 2 ∷ 0 ∷ 0 ∷ 3 ∷ 0 ∷ 0 ∷ 2 ∷ 3 ∷ 1 ∷ 0 ∷ 3 ∷ 1 ∷ 2 ∷ []
 
 -- its text for family two
 abbrev pub familiesText : String
-familiesText = "table2\t4\t2\t0\non\t3\t10\non\t5\t10\non\t6\t10\non\t11\t11\non\t13\t11\non\t14\t10\non\t15\t01\nend\n"
+familiesText =
+    "table2\t4\t2\t0\non\t3\t01\non\t6\t11\non\t9\t01\non\t10\t11\non\t11\t10\non\t13\t11\non\t14\t10\non\t15\t01\nend\n"
 
 -- and the listing that the evaluator writes for it
 abbrev pub familiesListing : String
 familiesListing =
-    "form2\t4\t2\t0\t0\t6\t8\t14\nterm\t----\t10\nterm\t---1\t10\nterm\t--0-\t10\nterm\t-0--\t10\nterm\t-00-\t10\nterm\t-001\t10\nterm\t1--1\t01\nterm\t1001\t01\nend\n"
+    "form2\t4\t2\t0\t0\t11\t10\t19\ninv\t10\nterm\t---0\t01\nterm\t--0-\t11\nterm\t-1--\t11\nterm\t-1-0\t10\nterm\t-10-\t01\nterm\t0---\t11\nterm\t0-0-\t10\nterm\t0-00\t01\nterm\t01--\t10\nterm\t0100\t10\nend\n"
 
 -- a table of four inputs on which two expansions have the least charge of family two
 unfoldable pub tieTable : List ℕ
-tieTable = 0 ∷ 0 ∷ 0 ∷ 1 ∷ 0 ∷ 1 ∷ 1 ∷ 1 ∷ 0 ∷ 2 ∷ 0 ∷ 0 ∷ 0 ∷ 0 ∷ 1 ∷ 0 ∷ []
+tieTable = 0 ∷ 0 ∷ 0 ∷ 2 ∷ 0 ∷ 2 ∷ 3 ∷ 3 ∷ 0 ∷ 3 ∷ 1 ∷ 0 ∷ 3 ∷ 1 ∷ 2 ∷ 1 ∷ []
 
 -- the listing of one product of four inputs
 abbrev pub fourListing : String
-fourListing = "form\t4\t1\t0\t0\t10\t1\t4\nterm\t0101\t1\nend\n"
+fourListing = "form\t4\t1\t0\t0\t10\t1\t4\ninv\t0\nterm\t0101\t1\nend\n"
 
 -- 256 bytes, all zero: "Points not listed are all zero."
 abbrev pub zeros : List ℕ
 zeros = replicate 256 0
 
--- a record by its coefficients, its block polarities, M, i, products and literals
-abbrev pub recorded : (c φ : List ℕ) (M i products literals : ℕ) → Expansion
-recorded c φ M i p l = record { coefficients = c; blocks = φ; mixed = M; fixed = i; products = p; literals = l }
+-- a record by its coefficients, its block polarities, M, i, products, literals and its inversion mask
+abbrev pub recorded : (c φ : List ℕ) (M i products literals v : ℕ) → Expansion
+recorded c φ M i p l v = record { coefficients = c; blocks = φ; mixed = M; fixed = i; products = p; literals = l; inverted = v }
 
 -- ---- the table
 
@@ -245,22 +266,35 @@ markedDesigns =
     ∷ states (entryAt 150 7) (23 ∷ [])
     ∷ states (entryAt 136 0) (8 ∷ [])
     ∷ states (entryAt 12 5) (64 ∷ [])
-    -- "M = 2^k − 1, i = 0, 0 products", and so 0 literals
-    ∷ states (answerFor One 2 0 zeroTable) (0 ∷ 0 ∷ 0 ∷ 0 ∷ [])
-    ∷ states (answerFor One 2 1 zeroTable) (1 ∷ 0 ∷ 0 ∷ 0 ∷ [])
-    ∷ states (answerFor One 2 2 zeroTable) (3 ∷ 0 ∷ 0 ∷ 0 ∷ [])
-    -- "one product, 0 literals"
-    ∷ states (costOf One 2 0 oneTable) (1 ∷ 0 ∷ [])
-    ∷ states (costOf One 2 1 oneTable) (1 ∷ 0 ∷ [])
-    ∷ states (costOf One 2 2 oneTable) (1 ∷ 0 ∷ [])
-    -- "n = 1, only point 0 on, k = 0: i = 1, 1 product, 1 literal", and M = 0
-    ∷ states (answerFor One 1 0 pointTable) (0 ∷ 1 ∷ 1 ∷ 1 ∷ [])
-    -- "k = 1 costs 2 products, 3 literals; k = 0 and k = 2 cost 3 and 3"
+    -- "M = 2^k − 1, i = 0, 0 products", and so 0 literals, and no output inverted
+    ∷ states (answerFor One 2 0 zeroTable) (0 ∷ 0 ∷ 0 ∷ 0 ∷ 0 ∷ [])
+    ∷ states (answerFor One 2 1 zeroTable) (1 ∷ 0 ∷ 0 ∷ 0 ∷ 0 ∷ [])
+    ∷ states (answerFor One 2 2 zeroTable) (3 ∷ 0 ∷ 0 ∷ 0 ∷ 0 ∷ [])
+    -- document 02, W-205: "all one costs nothing", and its output is inverted
+    ∷ states (answerFor One 2 0 oneTable) (0 ∷ 0 ∷ 0 ∷ 0 ∷ 1 ∷ [])
+    ∷ states (answerFor One 2 1 oneTable) (1 ∷ 0 ∷ 0 ∷ 0 ∷ 1 ∷ [])
+    ∷ states (answerFor One 2 2 oneTable) (3 ∷ 0 ∷ 0 ∷ 0 ∷ 1 ∷ [])
+    -- "n = 1, only point 0 on, k = 0: i = 1, 1 product, 1 literal", and M = 0; of the two masks the lesser
+    ∷ states (answerFor One 1 0 pointTable) (0 ∷ 1 ∷ 1 ∷ 1 ∷ 0 ∷ [])
+    -- document 02, W-205: "01's last design 2 and 3 at every k"
+    ∷ states (costOf One 2 0 withoutTable) (2 ∷ 3 ∷ [])
     ∷ states (costOf One 2 1 withoutTable) (2 ∷ 3 ∷ [])
-    ∷ states (costOf One 2 0 withoutTable) (3 ∷ 3 ∷ [])
-    ∷ states (costOf One 2 2 withoutTable) (3 ∷ 3 ∷ [])
-    -- `form 2 2 1 1 2 2 2`
-    ∷ states (answerFor One 2 1 printedTable) (1 ∷ 2 ∷ 2 ∷ 2 ∷ [])
+    ∷ states (costOf One 2 2 withoutTable) (2 ∷ 3 ∷ [])
+    -- with k = 1 no output is inverted; with k = 0 and k = 2 output 0
+    ∷ states (answerFor One 2 0 withoutTable) (0 ∷ 1 ∷ 2 ∷ 3 ∷ 1 ∷ [])
+    ∷ states (answerFor One 2 1 withoutTable) (1 ∷ 0 ∷ 2 ∷ 3 ∷ 0 ∷ [])
+    ∷ states (answerFor One 2 2 withoutTable) (3 ∷ 0 ∷ 2 ∷ 3 ∷ 1 ∷ [])
+    -- document 02, W-207, "3 products at k = 3, yet 2 at k = 1": a larger k can be dearer
+    ∷ states (costOf One 3 0 dearerTable) (3 ∷ 6 ∷ [])
+    ∷ states (costOf One 3 1 dearerTable) (2 ∷ 5 ∷ [])
+    ∷ states (costOf One 3 2 dearerTable) (2 ∷ 5 ∷ [])
+    ∷ states (costOf One 3 3 dearerTable) (3 ∷ 6 ∷ [])
+    -- "Equal costs .. go to the least mask, then to the least M, i": mask 1 with i = 2, where i = 0 would invert output 1, mask 2
+    ∷ states (answerFor One 2 0 oppositeTable) (0 ∷ 2 ∷ 1 ∷ 1 ∷ 1 ∷ [])
+    ∷ states (printedOf oppositeText) (bytes oppositeListing)
+    ∷ states (tableOf 2 oppositeListing) oppositeTable
+    -- "`inv 10` with the sole term `00 11`, 1 product and 2 literals"
+    ∷ states (answerFor One 2 1 printedTable) (1 ∷ 2 ∷ 1 ∷ 2 ∷ 1 ∷ [])
     -- the printed example, from its text to its listing, byte for byte
     ∷ states (printedOf printedText) (bytes printedListing)
     -- likewise all zero at k = 2, all one at k = 0, and n = 1 with only point 0 on
@@ -325,8 +359,8 @@ markedDesigns =
     -- "A table that begins `table2`", "Its listing begins `form2`", "The reading call returns the family too"
     ∷ states (meaningOf printedText2) (accepted Two 2 2 (Block 1) (printedTable ++ replicate 252 0))
     ∷ states (printedOf printedText2) (bytes printedListing2)
-    ∷ states (listingOf Two 2 2 1 (recorded (1 ∷ 0 ∷ 0 ∷ 3 ∷ []) (0 ∷ 1 ∷ []) 1 2 2 2)) (bytes printedListing2)
-    ∷ states (firstLineOf printedListing2) (2 ∷ 2 ∷ 1 ∷ 1 ∷ 2 ∷ 2 ∷ 2 ∷ [])
+    ∷ states (listingOf Two 2 2 1 (recorded (0 ∷ 0 ∷ 0 ∷ 3 ∷ []) (0 ∷ 1 ∷ []) 1 2 1 2 1)) (bytes printedListing2)
+    ∷ states (firstLineOf printedListing2) (2 ∷ 2 ∷ 1 ∷ 1 ∷ 2 ∷ 1 ∷ 2 ∷ [])
     ∷ states (tableOf 2 printedListing2) printedTable
     -- with `table2` a `-` means 1, and the order of line 1 is the same
     ∷ states (meaningOf "table2\t2\t1\t-\nend\n") (accepted Two 2 1 (Block 1) zeros)
@@ -340,44 +374,48 @@ markedDesigns =
     ∷ states (meaningOf "table3\t2\t1\t1\nend\n") (refusal 1 1)
     ∷ states (meaningOf "table02\t2\t1\t1\nend\n") (refusal 1 1)
     ∷ states (meaningOf "Table2\t2\t1\t1\nend\n") (refusal 1 1)
-    -- family one takes 7 products with 19 literals, whose charge is 4 * 7 + 19 = 47; family two 8 with 14, whose charge is 46
-    ∷ states (answerFor One 4 0 familiesTable) (0 ∷ 0 ∷ 7 ∷ 19 ∷ [])
-    ∷ states (answerFor Two 4 0 familiesTable) (0 ∷ 6 ∷ 8 ∷ 14 ∷ [])
+    -- family one takes 9 products with 24 literals, whose charge is 4 * 9 + 24 = 60; family two 10 with 19, whose charge is 59
+    ∷ states (answerFor One 4 0 familiesTable) (0 ∷ 0 ∷ 9 ∷ 24 ∷ 0 ∷ [])
+    ∷ states (answerFor Two 4 0 familiesTable) (0 ∷ 11 ∷ 10 ∷ 19 ∷ 1 ∷ [])
     -- family two from its text to its listing, byte for byte, and what the listing says
     ∷ states (printedOf familiesText) (bytes familiesListing)
-    ∷ states (countsOf familiesListing) (8 ∷ 14 ∷ [])
+    ∷ states (countsOf familiesListing) (10 ∷ 19 ∷ [])
     ∷ states (tableOf 4 familiesListing) familiesTable
-    -- 7 products with 18 literals and 8 with 14 have the charge 46 alike: "among equal charges by fewest products"; by 3 × products the other would be
-    -- taken, 38 against 39
-    ∷ states (answerFor Two 4 0 tieTable) (0 ∷ 0 ∷ 7 ∷ 18 ∷ [])
-    ∷ states (costAt 4 6 tieTable) (8 ∷ 14 ∷ [])
+    -- 9 products with 22 literals and 10 with 18 have the charge 58 alike: "among equal charges by fewest products"; by 3 × products the other would be
+    -- taken, 48 against 49
+    ∷ states (answerFor Two 4 0 tieTable) (0 ∷ 0 ∷ 9 ∷ 22 ∷ 0 ∷ [])
+    ∷ states (costAt 4 3 tieTable) (10 ∷ 18 ∷ [])
     -- the printed example's record, its listing, and what the listing says
-    ∷ states (listingOf One 2 2 1 (recorded (1 ∷ 0 ∷ 0 ∷ 3 ∷ []) (0 ∷ 1 ∷ []) 1 2 2 2)) (bytes printedListing)
-    ∷ states (firstLineOf printedListing) (2 ∷ 2 ∷ 1 ∷ 1 ∷ 2 ∷ 2 ∷ 2 ∷ [])
-    ∷ states (countsOf printedListing) (2 ∷ 2 ∷ [])
+    ∷ states (listingOf One 2 2 1 (recorded (0 ∷ 0 ∷ 0 ∷ 3 ∷ []) (0 ∷ 1 ∷ []) 1 2 1 2 1)) (bytes printedListing)
+    ∷ states (firstLineOf printedListing) (2 ∷ 2 ∷ 1 ∷ 1 ∷ 2 ∷ 1 ∷ 2 ∷ [])
+    ∷ states (countsOf printedListing) (1 ∷ 2 ∷ [])
     ∷ states (tableOf 2 printedListing) printedTable
     -- all zero at k = 2
-    ∷ states (listingOf One 2 1 2 (recorded [] [] 3 0 0 0)) (bytes zeroListing)
+    ∷ states (listingOf One 2 1 2 (recorded [] [] 3 0 0 0 0)) (bytes zeroListing)
     ∷ states (firstLineOf zeroListing) (2 ∷ 1 ∷ 2 ∷ 3 ∷ 0 ∷ 0 ∷ 0 ∷ [])
     ∷ states (countsOf zeroListing) (0 ∷ 0 ∷ [])
     ∷ states (tableOf 2 zeroListing) zeroTable
     -- all one at k = 0
-    ∷ states (listingOf One 2 1 0 (recorded (1 ∷ []) [] 0 0 1 0)) (bytes oneListing)
-    ∷ states (firstLineOf oneListing) (2 ∷ 1 ∷ 0 ∷ 0 ∷ 0 ∷ 1 ∷ 0 ∷ [])
-    ∷ states (countsOf oneListing) (1 ∷ 0 ∷ [])
+    ∷ states (listingOf One 2 1 0 (recorded [] [] 0 0 0 0 1)) (bytes oneListing)
+    ∷ states (firstLineOf oneListing) (2 ∷ 1 ∷ 0 ∷ 0 ∷ 0 ∷ 0 ∷ 0 ∷ [])
+    ∷ states (countsOf oneListing) (0 ∷ 0 ∷ [])
     ∷ states (tableOf 2 oneListing) oneTable
+    -- the constant beside an inverter: a product, and 0 at every point
+    ∷ states (listingOf One 2 1 0 (recorded (1 ∷ []) [] 0 0 1 0 1)) (bytes cancelledListing)
+    ∷ states (countsOf cancelledListing) (1 ∷ 0 ∷ [])
+    ∷ states (tableOf 2 cancelledListing) zeroTable
     -- n = 1, only point 0 on
-    ∷ states (listingOf One 1 1 0 (recorded (0 ∷ 1 ∷ []) [] 0 1 1 1)) (bytes pointListing)
+    ∷ states (listingOf One 1 1 0 (recorded (0 ∷ 1 ∷ []) [] 0 1 1 1 0)) (bytes pointListing)
     ∷ states (firstLineOf pointListing) (1 ∷ 1 ∷ 0 ∷ 0 ∷ 1 ∷ 1 ∷ 1 ∷ [])
     ∷ states (countsOf pointListing) (1 ∷ 1 ∷ [])
     ∷ states (tableOf 1 pointListing) pointTable
     -- OR of two inputs at w = 0
-    ∷ states (listingOf One 2 1 0 (recorded (0 ∷ 1 ∷ 1 ∷ 1 ∷ []) [] 0 0 3 4)) (bytes orListing)
+    ∷ states (listingOf One 2 1 0 (recorded (0 ∷ 1 ∷ 1 ∷ 1 ∷ []) [] 0 0 3 4 0)) (bytes orListing)
     ∷ states (firstLineOf orListing) (2 ∷ 1 ∷ 0 ∷ 0 ∷ 0 ∷ 3 ∷ 4 ∷ [])
     ∷ states (countsOf orListing) (3 ∷ 4 ∷ [])
     ∷ states (tableOf 2 orListing) orTable
     -- one product of four inputs, with a number of two digits
-    ∷ states (listingOf One 4 1 0 (recorded (set (replicate 16 0) 15 1) [] 0 10 1 4)) (bytes fourListing)
+    ∷ states (listingOf One 4 1 0 (recorded (set (replicate 16 0) 15 1) [] 0 10 1 4 0)) (bytes fourListing)
     ∷ states (firstLineOf fourListing) (4 ∷ 1 ∷ 0 ∷ 0 ∷ 10 ∷ 1 ∷ 4 ∷ [])
     ∷ states (countsOf fourListing) (1 ∷ 4 ∷ [])
     ∷ states (tableOf 4 fourListing) (set (replicate 16 0) 5 1)
