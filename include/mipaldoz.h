@@ -45,7 +45,7 @@ extern "C" {
 /* How many numbers the answer of each call has. */
 #define MIPALDOZ_FORWARD_ANSWER 2
 #define MIPALDOZ_BACKWARD_ANSWER 2
-#define MIPALDOZ_MINIMISE_ANSWER 6
+#define MIPALDOZ_MINIMISE_ANSWER 7
 #define MIPALDOZ_READ_ANSWER 7
 #define MIPALDOZ_COMPILE_ANSWER 3
 #define MIPALDOZ_CHECK_ANSWER 4
@@ -60,6 +60,7 @@ enum mipaldoz_answer {
     MIPALDOZ_FIXED = 3,    /* i, the fixed polarity: an input outside M whose bit is set is complemented */
     MIPALDOZ_PRODUCTS = 4, /* the number of products */
     MIPALDOZ_LITERALS = 5, /* the number of literals in them */
+    MIPALDOZ_INVERTED = 6, /* the inversion mask, output 0 at bit 0: an output whose bit is set is inverted */
     /* of mipaldoz_read */
     MIPALDOZ_INPUTS = 2,       /* n */
     MIPALDOZ_OUTPUTS = 3,      /* m */
@@ -87,7 +88,7 @@ enum mipaldoz_family {
 
 /* What the check says of a listing that is not refused. */
 enum mipaldoz_outcome {
-    MIPALDOZ_SAME = 1,        /* it is a member's listing, and gives every output at every point */
+    MIPALDOZ_SAME = 1,        /* it is a member's listing, and gives every output at every point, after the inverters */
     MIPALDOZ_DIFFERS = 2,     /* its cubes are a member's, and at the lowest point that differs it gives other outputs than the table */
     MIPALDOZ_NOT_OF_CLASS = 3 /* no member with its M and i prints its cubes */
 };
@@ -105,7 +106,8 @@ enum mipaldoz_refusal {
     MIPALDOZ_BAD_LENGTH = 8,    /* a buffer has another length than its call states */
     MIPALDOZ_BAD_BYTE = 9,      /* a byte of the table or of the coefficients has a bit at m or above set */
     MIPALDOZ_SHORT_OUTPUT = 10, /* the output buffer is shorter than the listing */
-    MIPALDOZ_BAD_LISTING = 11,  /* a line of the listing is broken, its t is not above the one before, or the listing ends wrongly */
+    MIPALDOZ_BAD_LISTING = 11,  /* a line of the listing is broken, as where line 2 is no `inv` line, its t is not above the one before, or
+                                   the listing ends wrongly */
     MIPALDOZ_OTHER_LISTING = 12 /* the listing's family, n, m or k is not the table's, or its counts are not those of its lines; beside a
                                    `K` table, its first line is a `form` or `form2` line */
 };
@@ -142,16 +144,18 @@ void mipaldoz_backward(size_t n, size_t m, size_t w,
                        uint64_t answer[MIPALDOZ_BACKWARD_ANSWER]);
 
 /*
- * Takes a table and finds the member of the class with k mixed inputs that gives it with fewest products, then fewest literals, then least
- * M, then least i, then in each block the least block polarity. This is the order of family one; a table of family two is minimised by
- * mipaldoz_compile.
+ * Takes a table and finds the member of the class with k mixed inputs and the inversion mask that give it with fewest products, then fewest
+ * literals, then the least mask, then least M, then least i, then in each block the least block polarity. An output is the exclusive OR of
+ * its terms, then inverted where the mask has its bit: inverters are free. This is the order of family one; a table of family two is
+ * minimised by mipaldoz_compile.
  *
  *   n, m, k        inputs, outputs, mixed inputs
  *   table          2^n bytes: bit o of byte p is output o at point p, whose bit 0 is x1; bits m to 7 are 0
- *   coefficients   2^n bytes, all filled: byte t holds the coefficient of term t, 0 where t is no product
+ *   coefficients   2^n bytes, all filled: byte t holds the coefficient of term t, 0 where t is no product. Byte 0, of the constant 1, is
+ *                  always 0: the constant of an output is its inverter
  *   blocks         2^(n - k) bytes, all filled: byte j is the polarity of block j over the inputs of M. Blocks are numbered by the bits at
  *                  the inputs outside M, closed up, lowest first; a block polarity has the bits at the inputs of M, closed up likewise
- *   answer         number, line, M, i, products, literals
+ *   answer         number, line, M, i, products, literals, the inversion mask
  *
  * Refusals, the first that applies, with line 0: 2 (n), 3 (m), 4 (k), 8 (the length of `table`, `coefficients` or `blocks`), 9 (a byte of
  * `table`).
@@ -181,10 +185,11 @@ void mipaldoz_read(const uint8_t *text, size_t text_length,
 /*
  * Reads a table text, finds the cheapest expansion and writes its listing into the front of `output`. Where the text begins with `table` and
  * k is a number the expansion is the one that mipaldoz_minimise finds, and the listing begins with `form`. Where the text begins with
- * `table2` it is the member of the class with the least charge, 4 x products + literals, then fewest products, then least M, then least i,
- * then in each block the least block polarity; the listing begins with `form2`. Where the text has `K` it is the cheapest Kronecker
+ * `table2` it is the member of the class and the inversion mask with the least charge, 4 x products + literals, then fewest products, then
+ * the least mask, then least M, then least i, then in each block the least block polarity; the listing begins with `form2`. The second line
+ * of either listing is `inv` and the mask, a character for each output from output 0 on. Where the text has `K` it is the cheapest Kronecker
  * expansion: fewest products, then fewest literals, then the letters that come first from xn down, S before P before N; the listing begins
- * with `kron`. Bytes past the listing keep what they held, and no zero byte is written after it.
+ * with `kron` and has no inverters. Bytes past the listing keep what they held, and no zero byte is written after it.
  *
  *   text           any bytes, any length; no zero byte ends it
  *   output         as long as the listing or longer; MIPALDOZ_LONGEST_LISTING bytes are enough for every text
@@ -205,13 +210,14 @@ void mipaldoz_compile(const uint8_t *text, size_t text_length,
  *   answer         number, line, outcome, point
  *
  * The outcome is MIPALDOZ_NOT_OF_CLASS where no member with the listing's M and i prints its cubes; else MIPALDOZ_DIFFERS with the lowest
- * point at which the listing's own lines do not give the table's outputs; else MIPALDOZ_SAME, whether the listing is the cheapest or not.
+ * point at which the listing's own lines, the outputs inverted where its `inv` line says, do not give the table's outputs; else
+ * MIPALDOZ_SAME, whether the listing is the cheapest or not. Any mask is of the class.
  *
  * Refusals, the first that applies: the text as in mipaldoz_read, 1 to 6 with the line in the text. Then line 1 of the listing: 11 where it
  * is broken, 12 where its family, n, m or k is not the table's: a `form` listing goes with a text that begins with `table`, a `form2` listing
- * with one that begins with `table2`. Then its later lines, one by one: 11 with the line. Then its counts: 12, line 1. Where the k of the
- * text is `K`, a `form` or `form2` listing is refused by 12 and any other by 11, each with line 1. A `kron` listing is refused by 11, line 1,
- * beside every text that is accepted.
+ * with one that begins with `table2`. Then its later lines, one by one: 11 with the line; line 2 is the `inv` line. Then its counts: 12,
+ * line 1. Where the k of the text is `K`, a `form` or `form2` listing is refused by 12 and any other by 11, each with line 1. A `kron`
+ * listing is refused by 11, line 1, beside every text that is accepted.
  */
 void mipaldoz_check(const uint8_t *text, size_t text_length,
                     const uint8_t *listing, size_t listing_length,

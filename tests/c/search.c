@@ -4,12 +4,15 @@
    block_search_prepare.
 
    A family is what a product and a literal weigh, so that the sum orders expansions as the family does: family
-   one by products, then literals; family two by 4 x products + literals, then products. */
+   one by products, then literals; family two by 4 x products + literals, then products.
+
+   Inverters are free, so term 0, the constant, is no product: its coefficient is the inversion mask. A block pays
+   its weight times 256, and block 0 the mask besides, so that equal costs go to the least mask. */
 
 #include <stddef.h>
 #include <stdint.h>
 
-enum { INPUTS = 8, OUTPUTS = 8, FUNCTIONS = 256, POLARITIES = 8, PLACES = 8 };
+enum { INPUTS = 8, OUTPUTS = 8, FUNCTIONS = 256, POLARITIES = 8, PLACES = 8, MASKS = 256 };
 
 enum family { FAMILY_ONE = 1, FAMILY_TWO = 2 };
 
@@ -118,15 +121,48 @@ static inline uint32_t rank(enum family family, uint32_t sum, unsigned outside)
     return family == FAMILY_ONE ? sum : weigh(family, sum >> 4, (sum >> 4) * outside + (sum & 15));
 }
 
-/* The least weight of a block, and the least polarity that has it. */
-static inline uint32_t cheapest(const struct split *s, enum family family, unsigned j, uint8_t *chosen)
+/* The products and literals of a block under the eight polarities, 16 and 1 each, a byte for each polarity. Its
+   places count from `first` on. */
+static inline uint64_t sums_from(const struct split *s, unsigned j, unsigned first)
 {
-    const unsigned outside = ones(j);
     uint64_t used = 0, sums = 0;
     for (unsigned o = 0; o < OUTPUTS; o++)
         used |= rows[s->lanes[j] >> (8 * o) & 255];
-    for (unsigned t = 0; t < PLACES; t++)
+    for (unsigned t = first; t < PLACES; t++)
         sums += (used >> t & 0x0101010101010101u) * (16u + literals[t]);
+    return sums;
+}
+
+/* The coefficient of place p of a block under a polarity. */
+static inline uint8_t coefficient(const struct split *s, unsigned j, unsigned phi, unsigned p)
+{
+    uint8_t byte = 0;
+    for (unsigned o = 0; o < OUTPUTS; o++)
+        byte |= (uint8_t)((rows[s->lanes[j] >> (8 * o) & 255] >> (8 * phi + p) & 1) << o);
+    return byte;
+}
+
+/* The least weight of block 0 without term 0, times 256, and the mask; and the least polarity that has it. */
+static inline uint32_t cheapest_first(const struct split *s, enum family family, uint8_t *chosen)
+{
+    const uint64_t sums = sums_from(s, 0, 1);
+    uint32_t least = UINT32_MAX;
+    for (unsigned phi = 0; phi < 1u << s->inside; phi++) {
+        uint32_t sum = sums >> (8 * phi) & 255;
+        uint32_t next = weigh(family, sum >> 4, sum & 15) * MASKS + coefficient(s, 0, phi, 0);
+        if (next < least) {
+            least = next;
+            *chosen = (uint8_t)phi;
+        }
+    }
+    return least;
+}
+
+/* The least weight of another block, times 256, and the least polarity that has it. */
+static inline uint32_t cheapest(const struct split *s, enum family family, unsigned j, uint8_t *chosen)
+{
+    const unsigned outside = ones(j);
+    const uint64_t sums = sums_from(s, j, 0);
     uint32_t least = rank(family, sums & 255, outside);
     *chosen = 0;
     for (unsigned phi = 1; phi < 1u << s->inside; phi++) {
@@ -136,18 +172,17 @@ static inline uint32_t cheapest(const struct split *s, enum family family, unsig
             *chosen = (uint8_t)phi;
         }
     }
-    return family == FAMILY_ONE ? weigh(family, least >> 4, (least >> 4) * outside + (least & 15)) : least;
+    if (family == FAMILY_ONE)
+        least = weigh(family, least >> 4, (least >> 4) * outside + (least & 15));
+    return least * MASKS;
 }
 
 static void write_coefficients(const struct split *s, const uint8_t *blocks, uint8_t *coefficients)
 {
     for (unsigned j = 0; j < s->blocks; j++)
-        for (unsigned p = 0; p < 1u << s->inside; p++) {
-            uint8_t byte = 0;
-            for (unsigned o = 0; o < OUTPUTS; o++)
-                byte |= (uint8_t)((rows[s->lanes[j] >> (8 * o) & 255] >> (8 * blocks[j] + p) & 1) << o);
-            coefficients[spread(j, s->rest) | spread(p, s->mixed)] = byte;
-        }
+        for (unsigned p = 0; p < 1u << s->inside; p++)
+            coefficients[spread(j, s->rest) | spread(p, s->mixed)] = coefficient(s, j, blocks[j], p);
+    coefficients[0] = 0;
 }
 
 static inline void search(enum family family, size_t n, size_t k, const uint8_t *table,
@@ -162,8 +197,8 @@ static inline void search(enum family family, size_t n, size_t k, const uint8_t 
             continue;
         expand(&s, n, mixed, table);
         for (unsigned polarity = 0; polarity < s.blocks; polarity++) {
-            uint32_t total = 0;
-            for (unsigned j = 0; j < s.blocks; j++)
+            uint32_t total = cheapest_first(&s, family, &chosen);
+            for (unsigned j = 1; j < s.blocks; j++)
                 total += cheapest(&s, family, j, &chosen);
             if (total < least) {
                 least = total;
@@ -176,17 +211,19 @@ static inline void search(enum family family, size_t n, size_t k, const uint8_t 
     }
     expand(&s, n, best_mixed, table);
     turn(&s, best_polarity);
-    for (unsigned j = 0; j < s.blocks; j++)
+    cheapest_first(&s, family, &blocks[0]);
+    for (unsigned j = 1; j < s.blocks; j++)
         cheapest(&s, family, j, &blocks[j]);
     write_coefficients(&s, blocks, coefficients);
     answer[0] = answer[1] = 0;
     answer[2] = best_mixed;
     answer[3] = spread(best_polarity, s.rest);
-    counts(family, least, &answer[4], &answer[5]);
+    counts(family, least / MASKS, &answer[4], &answer[5]);
+    answer[6] = least % MASKS;
 }
 
-/* The least member of the family that gives a sound table. The answer is number, line, M, i, products,
-   literals. The family is a constant in each of the two. */
+/* The least expansion of the family that gives a sound table. The answer is number, line, M, i, products,
+   literals, the inversion mask. The family is a constant in each of the two. */
 void block_search(size_t family, size_t n, size_t k, const uint8_t *table, uint8_t *coefficients,
                   uint8_t *blocks, uint64_t *answer)
 {

@@ -63,10 +63,11 @@ pub fn minimise_for(
 
 #[cfg(test)]
 mod tests {
-    use crate::class::least;
+    use crate::calls::MinimiseAnswer;
+    use crate::class::{least, minimise_answer};
     use crate::evaluator::places;
     use crate::family::Family;
-    use crate::marked::families::{COMPARED, Compared, INPUTS, OUTPUTS};
+    use crate::marked::families::{COMPARED, Compared, OUTPUTS};
     use crate::seeded::Seeded;
     use crate::seeded::tables::any_table;
 
@@ -75,15 +76,14 @@ mod tests {
         let [n, _, k] = sizes;
         for family in Family::ALL {
             let (mut coefficients, mut blocks) = (vec![0; places(n)], vec![0; places(n - k)]);
-            let mut answer = [0; 6];
+            let mut answer = MinimiseAnswer::default();
             let filled = (&mut coefficients, &mut blocks);
             super::minimise_for(family, sizes, table, filled.0, filled.1, &mut answer);
             let wanted = least(family, n, k, table);
-            let (member, cost) = (&wanted.member, wanted.cost);
-            let figures = [member.mixed, member.fixed, cost.products, cost.literals];
-            assert_eq!(answer[2..], figures.map(|number| number as u64));
+            assert_eq!(answer, minimise_answer(Ok(&wanted)));
             assert_eq!(coefficients, wanted.coefficients);
-            assert!(blocks.iter().map(|&phi| usize::from(phi)).eq(member.blocks.iter().copied()));
+            let found: Vec<usize> = blocks.into_iter().map(usize::from).collect();
+            assert_eq!(found, wanted.member.blocks);
         }
     }
 
@@ -95,8 +95,8 @@ mod tests {
             let (m, k) = (seeded.within(1, 8), seeded.below(n.min(3) + 1));
             agree([n, m, k], &any_table(&mut seeded, n, m));
         }
-        for Compared { k, table, .. } in COMPARED {
-            agree([INPUTS, OUTPUTS, k], table);
+        for Compared { n, k, table, .. } in COMPARED {
+            agree([n, OUTPUTS, k], table);
         }
     }
 }

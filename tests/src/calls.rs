@@ -110,8 +110,8 @@ pub fn backward(
     }
 }
 
-/// The numbers of the minimising call's answer: number, line, M, i, products, literals.
-pub type MinimiseAnswer = [u64; 6];
+/// The numbers of the minimising call's answer: number, line, M, i, products, literals, the inversion mask.
+pub type MinimiseAnswer = [u64; 7];
 
 /// The minimising call: fills the coefficients and the block polarities of the least expansion.
 #[inline]
@@ -124,7 +124,7 @@ pub fn minimise(
     blocks: &mut [u8],
     answer: &mut MinimiseAnswer,
 ) {
-    // SAFETY: each pointer goes with the length of its own slice, and the answer has its six places.
+    // SAFETY: each pointer goes with the length of its own slice, and the answer has its seven places.
     unsafe {
         mipaldoz_minimise(
             n,

@@ -3,7 +3,7 @@
 //! number, line. Both come from the evaluator.
 
 use crate::family::Family;
-use crate::marked::families::{self, COMPARED, Compared, INPUTS, OUTPUTS};
+use crate::marked::families::{self, COMPARED, Compared, OUTPUTS};
 use crate::marked::{ACCEPTED, DESIGNS, Marked, REFUSED, bytes, kronecker};
 use crate::seeded::Seeded;
 use crate::seeded::tables::{any_table, longest_listing_table, random_table};
@@ -96,8 +96,8 @@ fn family_texts(seeded: &mut Seeded) -> Vec<Vec<u8>> {
     let accepted = families::ACCEPTED.iter().map(|(text, _)| bytes(text));
     let refused = families::REFUSED.iter().map(|(text, _, _)| bytes(text));
     let mut texts: Vec<Vec<u8>> = accepted.chain(refused).collect();
-    for Compared { k, table, .. } in COMPARED {
-        let design = Design::block(INPUTS, OUTPUTS, k, table.to_vec());
+    for Compared { n, k, table, .. } in COMPARED {
+        let design = Design::block(n, OUTPUTS, k, table.to_vec());
         texts.extend(Family::ALL.map(|family| design.clone().of_family(family).text()));
     }
     let mut push = |n, m, k, table| {

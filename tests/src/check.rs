@@ -1,4 +1,5 @@
-//! The fitter's check, as document 02's W-201 to W-203 give it: a listing is judged beside its table text.
+//! The fitter's check, as document 02's W-201 to W-203 and W-205 give it: a listing is judged beside its table
+//! text.
 
 use crate::calls::CheckAnswer;
 use crate::class::{Member, is_of_a_member};
@@ -20,7 +21,8 @@ pub enum Verdict {
 }
 
 /// Judges a listing beside its table text: the table text, the lines of the listing, the counts, the
-/// class, the points.
+/// class, the points. "The fitter's check reads the line and inverts", so points are compared after the
+/// inverters; any inversion mask is of the class.
 pub fn check(text: &[u8], listing: &[u8]) -> Result<Verdict, Refusal> {
     let design = read(text)?;
     let listing = Listing::read(&design, listing)?;
@@ -81,23 +83,28 @@ pub fn printed(text: &[u8], listing: &[u8]) -> Vec<u8> {
 #[cfg(test)]
 mod tests {
     use super::*;
-    use crate::class::{Expansion, members_with};
+    use crate::class::{Expansion, masks, members_with};
     use crate::seeded::Seeded;
-    use crate::seeded::listings::{any_expansion, change_cube, change_polarities, true_counts};
+    use crate::seeded::listings::{
+        any_expansion, change_cube, change_mask, change_polarities, true_counts,
+    };
     use crate::seeded::texts::sound_text;
     use crate::text::Design;
 
-    /// Document 02's sentences, said over every member with the listing's M and i: the cubes are those
-    /// of no member, or some member that gives the table prints just those lines.
+    /// Document 02's sentences, said over every member with the listing's M and i and every mask: the cubes are
+    /// those of no member, or some member that gives the table prints just those lines.
     fn said_over_members(design: &Design, listing: &Listing) -> [bool; 2] {
         let Listing { n, k, mixed, fixed, .. } = *listing;
         let members = members_with(n, k, mixed, fixed);
         let cubes =
             |member: &Member| listing.products.iter().all(|product| prints(n, member, product));
         let none = !members.iter().any(cubes);
-        let lines =
-            |member: Member| Listing::of(design, &Expansion::giving(n, member, &design.table));
-        let same = members.into_iter().any(|member| lines(member).bytes() == listing.bytes());
+        let written = listing.bytes();
+        let prints_all = |member: &Member, mask: u8| {
+            let expansion = Expansion::giving(n, member.clone(), mask, &design.table);
+            Listing::of(design, &expansion).bytes() == written
+        };
+        let same = members.iter().any(|one| masks(design.m).any(|mask| prints_all(one, mask)));
         [none, same]
     }
 
@@ -105,12 +112,16 @@ mod tests {
     fn verdicts_are_what_the_members_say() {
         let mut seeded = Seeded::new(4);
         let mut said = [0; 3];
-        for round in 0..2000 {
+        for round in 0..4000 {
             let (design, text) = sound_text(&mut seeded, 3);
+            if design.m > 3 {
+                continue;
+            }
             let mut listing = Listing::of(&design, &any_expansion(&mut seeded, &design));
-            match round % 4 {
+            match round % 5 {
                 0 => {}
                 1 => change_polarities(&mut seeded, &mut listing),
+                2 => change_mask(&mut seeded, &mut listing),
                 _ => change_cube(&mut seeded, &mut listing),
             }
             true_counts(&mut listing);

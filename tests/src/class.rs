@@ -1,16 +1,19 @@
-//! The class of expansions and its costs. The least member that gives a table, in the order of a family, is
-//! searched in two ways: over every member, and block by block.
+//! The class of expansions, with inverters on the outputs, and its costs. The least expansion that gives a
+//! table, in the order of a family, is searched in two ways: over every member and every inversion mask, and
+//! block by block.
 
 mod block_search;
 mod every_member;
 
 pub use block_search::least;
-pub use every_member::{Class, members_with};
+pub use every_member::{Class, masks, members_with};
 
+use crate::calls::MinimiseAnswer;
 use crate::evaluator::{
     Refusal, complemented, forward, holds, inputs, judge_bits, judge_lengths, judge_sizes,
     literals, number_of, places, value,
 };
+use crate::family::Family;
 use std::collections::BTreeMap;
 use std::iter::Sum;
 
@@ -87,36 +90,52 @@ impl Sum for Cost {
     }
 }
 
-/// A member with coefficients and what they cost.
+/// What the terms give at each point where the outputs of the mask are inverted afterwards.
+pub fn before_inverters(table: &[u8], inverted: u8) -> Vec<u8> {
+    table.iter().map(|byte| byte ^ inverted).collect()
+}
+
+/// A member with coefficients, an inversion mask and what they cost. Document 02: "Output inverters are free."
 #[derive(Clone, Debug, PartialEq, Eq)]
 pub struct Expansion {
     pub member: Member,
     pub coefficients: Vec<u8>,
+    /// The inversion mask, "bit o for output o".
+    pub inverted: u8,
     pub cost: Cost,
 }
 
 impl Expansion {
-    pub fn new(n: usize, member: Member, coefficients: Vec<u8>) -> Self {
+    pub fn new(n: usize, member: Member, coefficients: Vec<u8>, inverted: u8) -> Self {
         let cost = (0..places(n)).map(|t| Cost::of_term(literals(n, t), coefficients[t])).sum();
-        Expansion { member, coefficients, cost }
+        Expansion { member, coefficients, inverted, cost }
     }
 
-    /// This member with the coefficients that give the table: a term has the one that it has in the
-    /// fixed-polarity expansion under its own polarity.
-    pub fn giving(n: usize, member: Member, table: &[u8]) -> Self {
+    /// This member and this mask with the coefficients that give the table: a term has the one that it has in
+    /// the fixed-polarity expansion under its own polarity.
+    pub fn giving(n: usize, member: Member, inverted: u8, table: &[u8]) -> Self {
+        let wanted = before_inverters(table, inverted);
         let mut expansions = BTreeMap::new();
         let mut coefficient = |t| {
             let polarity = member.polarity(n, t);
-            expansions.entry(polarity).or_insert_with(|| forward(n, polarity, table))[t]
+            expansions.entry(polarity).or_insert_with(|| forward(n, polarity, &wanted))[t]
         };
         let coefficients = (0..places(n)).map(&mut coefficient).collect();
-        Expansion::new(n, member, coefficients)
+        Expansion::new(n, member, coefficients, inverted)
     }
 
-    /// The table that this expansion gives, point by point.
+    /// The table that this expansion gives, point by point: "An output is the exclusive OR of its terms, then
+    /// inverted where marked".
     pub fn table(&self, n: usize) -> Vec<u8> {
         let polarities: Vec<usize> = (0..places(n)).map(|t| self.member.polarity(n, t)).collect();
-        (0..places(n)).map(|p| value(n, |t| polarities[t], &self.coefficients, p)).collect()
+        let terms = |p| value(n, |t| polarities[t], &self.coefficients, p);
+        (0..places(n)).map(|p| terms(p) ^ self.inverted).collect()
+    }
+
+    /// What expansions are compared by before the block polarities: the cost in the family's order; equal costs
+    /// "go to the least mask, then to the least M, i and φj".
+    pub fn order(&self, family: Family) -> ([usize; 2], u8, usize, usize) {
+        (family.order(self.cost), self.inverted, self.member.mixed, self.member.fixed)
     }
 }
 
@@ -142,22 +161,34 @@ pub fn judge_minimise(
     judge_bits(m, table)
 }
 
+/// The numbers of the minimising call's answer: number, line, M, i, products, literals, the inversion mask.
+pub fn minimise_answer(judged: Result<&Expansion, Refusal>) -> MinimiseAnswer {
+    match judged {
+        Ok(Expansion { member, inverted, cost, .. }) => {
+            let figures = [member.mixed, member.fixed, cost.products, cost.literals];
+            let [mixed, fixed, products, literals] = figures.map(|number| number as u64);
+            [0, 0, mixed, fixed, products, literals, u64::from(*inverted)]
+        }
+        Err(Refusal { number, line }) => [number, line, 0, 0, 0, 0, 0],
+    }
+}
+
 #[cfg(test)]
 mod tests {
     use super::*;
-    use crate::family::Family;
     use crate::seeded::Seeded;
-    use crate::seeded::listings::any_member;
-    use crate::seeded::tables::{any_table, every_table};
+    use crate::seeded::listings::{any_mask, any_member};
+    use crate::seeded::tables::{any_table, every_table, table_of};
 
     /// The two searches agree for both families, and what they find gives the table.
-    fn agree(n: usize, k: usize, class: &Class, table: &[u8]) {
+    fn agree(class: &Class, m: usize, table: &[u8]) {
+        let Class { n, k, .. } = *class;
         for family in Family::ALL {
             let found = least(family, n, k, table);
             assert_eq!(
                 found,
-                class.least(family, table),
-                "{family:?}, n = {n}, k = {k}, {table:?}"
+                class.least(family, m, table),
+                "{family:?}, n = {n}, m = {m}, k = {k}, {table:?}"
             );
             assert_eq!(found.table(n), table);
         }
@@ -165,10 +196,10 @@ mod tests {
 
     #[test]
     fn every_small_table() {
-        for (n, m) in [(1, 1), (1, 2), (2, 1), (2, 2), (3, 1)] {
+        for (n, m) in [(1, 1), (1, 2), (1, 3), (2, 1), (2, 2), (3, 1)] {
             for k in 0..=n {
                 let class = Class::new(n, k);
-                every_table(n, m).for_each(|table| agree(n, k, &class, &table));
+                every_table(n, m).for_each(|table| agree(&class, m, &table));
             }
         }
     }
@@ -176,12 +207,82 @@ mod tests {
     #[test]
     fn drawn_tables() {
         let mut seeded = Seeded::new(1);
-        for (n, rounds) in [(3, 400), (4, 60)] {
-            for k in 0..=3 {
+        for (n, rounds) in [(1, 40), (2, 40), (3, 300), (4, 20)] {
+            for k in 0..=n.min(3) {
                 let class = Class::new(n, k);
                 for _ in 0..rounds {
-                    let m = seeded.within(1, 8);
-                    agree(n, k, &class, &any_table(&mut seeded, n, m));
+                    let m = seeded.within(1, class.most_outputs());
+                    agree(&class, m, &any_table(&mut seeded, n, m));
+                }
+            }
+        }
+    }
+
+    /// No member with any coefficients and any mask is before the least expansion of the table that it gives. Of
+    /// those equal up to i, the least has the least polarity in each block.
+    #[test]
+    fn no_rival_is_before() {
+        for (n, m) in [(1, 1), (1, 2), (2, 1), (2, 2)] {
+            for k in 0..=n {
+                let answers =
+                    |table: &Vec<u8>| Family::ALL.map(|family| least(family, n, k, table));
+                let found: BTreeMap<Vec<u8>, [Expansion; 2]> =
+                    every_table(n, m).map(|table| (table.clone(), answers(&table))).collect();
+                every_rival(n, m, k, |rival| {
+                    for (family, first) in Family::ALL.into_iter().zip(&found[&rival.table(n)]) {
+                        let [ours, theirs] = [first, &rival].map(|e| e.order(family));
+                        let mut blocks = first.member.blocks.iter().zip(&rival.member.blocks);
+                        let least_in_each = blocks.all(|(ours, theirs)| ours <= theirs);
+                        assert!(ours < theirs || (ours == theirs && least_in_each), "{rival:?}");
+                    }
+                });
+            }
+        }
+    }
+
+    /// Every member with every coefficients and every mask.
+    fn every_rival(n: usize, m: usize, k: usize, try_one: impl Fn(Expansion)) {
+        let of_set = |mixed| fixed_polarities(n, mixed).map(move |fixed| (mixed, fixed));
+        for (mixed, fixed) in mixed_sets(n, k).flat_map(of_set) {
+            for member in members_with(n, k, mixed, fixed) {
+                for (c, mask) in
+                    every_table(n, m).flat_map(|c| masks(m).map(move |v| (c.clone(), v)))
+                {
+                    try_one(Expansion::new(n, member.clone(), c, mask));
+                }
+            }
+        }
+    }
+
+    /// The outputs of a table inverted by themselves: it costs the same, and the least mask decides again.
+    #[test]
+    fn inverted_tables() {
+        let mut seeded = Seeded::new(9);
+        for round in 0..60 {
+            let n = 2 + round % 2;
+            let (m, k) = (seeded.within(1, 3), seeded.below(n + 1));
+            let (class, table) = (Class::new(n, k), any_table(&mut seeded, n, m));
+            let costs = masks(m).map(|mask| {
+                let inverted = before_inverters(&table, mask);
+                agree(&class, m, &inverted);
+                least(Family::One, n, k, &inverted).cost
+            });
+            let costs: Vec<Cost> = costs.collect();
+            assert!(costs.iter().all(|cost| *cost == costs[0]), "{table:?}: {costs:?}");
+        }
+    }
+
+    /// Document 02: "all one costs nothing", and so does every constant.
+    #[test]
+    fn constant_tables() {
+        for (n, m) in [(1, 1), (2, 3), (3, 8), (4, 2), (5, 8), (6, 5), (7, 1), (8, 8)] {
+            for byte in [0, 255, 0b1010_0110] {
+                let table = table_of(n, m, |_| byte);
+                for (family, k) in
+                    Family::ALL.into_iter().flat_map(|f| (0..=n.min(3)).map(move |k| (f, k)))
+                {
+                    let found = least(family, n, k, &table);
+                    assert_eq!(found.order(family), ([0, 0], table[0], places(k) - 1, 0));
                 }
             }
         }
@@ -194,8 +295,8 @@ mod tests {
             let n = 1 + round % 8;
             let (m, k) = (seeded.within(1, 8), seeded.below(n.min(3) + 1));
             let table = any_table(&mut seeded, n, m);
-            let member = any_member(&mut seeded, n, k);
-            assert_eq!(Expansion::giving(n, member, &table).table(n), table);
+            let (member, mask) = (any_member(&mut seeded, n, k), any_mask(&mut seeded, m));
+            assert_eq!(Expansion::giving(n, member, mask, &table).table(n), table);
         }
     }
 

@@ -3,16 +3,18 @@
 
 use outside_cases::calls;
 use outside_cases::check::{self, Verdict};
+use outside_cases::class::{Expansion, masks};
 use outside_cases::evaluator::{Refusal, places};
 use outside_cases::family::Family;
 use outside_cases::lent::{Lent, answer};
 use outside_cases::marked::families::{EXAMPLE_LISTING_TWO, EXAMPLE_TWO};
-use outside_cases::marked::pairs::{self, EXAMPLE_LISTING};
+use outside_cases::marked::pairs::{self, EXAMPLE_BEFORE, EXAMPLE_LISTING};
 use outside_cases::marked::{ACCEPTED, EXAMPLE, bytes, families, kronecker, refused};
 use outside_cases::seeded::Seeded;
 use outside_cases::seeded::listings::{
-    any_listing, break_line, change_counts, change_cube, change_outputs, change_polarities,
-    drawn_listing, drop_term, empty_listing, true_counts, with_other_byte, with_other_sizes,
+    any_listing, any_member, break_line, change_counts, change_cube, change_mask, change_outputs,
+    change_polarities, drawn_listing, drop_term, empty_listing, trade_inverters, true_counts,
+    with_broken_mask, with_other_byte, with_other_sizes,
 };
 use outside_cases::seeded::tables::{longest_listing_table, random_table};
 use outside_cases::seeded::texts::{
@@ -24,7 +26,7 @@ use outside_cases::text::{Design, Kind, compile};
 use std::collections::BTreeMap;
 
 /// How many pairs are drawn, the same number of each sort.
-const PAIRS: usize = 10_000;
+const PAIRS: usize = 12_000;
 
 /// How often a sort gives each of its outcomes, at least.
 const LEAST: usize = 5;
@@ -82,11 +84,11 @@ fn drawn(seeded: &mut Seeded) -> (Design, Vec<u8>) {
     sound_text(seeded, most_inputs)
 }
 
-/// The same, with a table that is not all zero.
+/// The same, with a table that is not constant: a constant one has no term.
 fn drawn_with_terms(seeded: &mut Seeded) -> (Design, Vec<u8>) {
     let (design, text) = drawn(seeded);
-    let zero = design.table.iter().all(|&byte| byte == 0);
-    if zero { drawn_with_terms(seeded) } else { (design, text) }
+    let constant = design.table.iter().all(|&byte| byte == design.table[0]);
+    if constant { drawn_with_terms(seeded) } else { (design, text) }
 }
 
 /// The listing that the text call writes.
@@ -104,7 +106,7 @@ fn ours_read(design: &Design, text: &[u8]) -> Listing {
 
 type Change = fn(&mut Seeded, &mut Listing);
 
-/// Our listing of a table that is not all zero, with a change.
+/// Our listing of a table that is not constant, with a change.
 fn changed(seeded: &mut Seeded, change: Change) -> Pair {
     changed_twice(seeded, change, |_, _| ())
 }
@@ -125,7 +127,7 @@ struct Sort {
     pair: fn(&mut Seeded) -> Pair,
 }
 
-const SORTS: [Sort; 29] = [
+const SORTS: [Sort; 38] = [
     Sort { name: "our listing", outcomes: &[Same], pair: own_listing },
     Sort {
         name: "a character of a cube",
@@ -156,6 +158,54 @@ const SORTS: [Sort; 29] = [
         name: "M or i",
         outcomes: &[Same, NotOfClass],
         pair: |seeded| changed(seeded, change_polarities),
+    },
+    Sort {
+        name: "a character of the mask",
+        outcomes: &[Differs],
+        pair: |seeded| changed(seeded, change_mask),
+    },
+    Sort {
+        name: "M or i, and a character of the mask",
+        outcomes: &[Differs, NotOfClass],
+        pair: |seeded| changed_twice(seeded, change_polarities, change_mask),
+    },
+    Sort {
+        name: "inverters exchanged for the constant",
+        outcomes: &[Same],
+        pair: |seeded| changed(seeded, trade_inverters),
+    },
+    Sort {
+        name: "inverters exchanged for the constant, with wrong counts",
+        outcomes: &[OtherListing],
+        pair: |seeded| changed_twice(seeded, trade_inverters, change_counts),
+    },
+    Sort {
+        name: "a broken mask",
+        outcomes: &[BadListing],
+        pair: |seeded| broken_mask(seeded, |_, _| ()),
+    },
+    Sort {
+        name: "a broken mask, and wrong counts, a bad line, M or i",
+        outcomes: &[BadListing],
+        pair: |seeded| {
+            let change = *seeded.pick(&[change_counts, break_line, change_polarities]);
+            broken_mask(seeded, change)
+        },
+    },
+    Sort {
+        name: "a broken mask, and another n, m, k or family",
+        outcomes: &[BadListing, OtherListing],
+        pair: broken_mask_of_other_sizes,
+    },
+    Sort {
+        name: "a broken mask beside a K text",
+        outcomes: &[OtherListing],
+        pair: broken_mask_beside_k,
+    },
+    Sort {
+        name: "a listing of before there were inverters",
+        outcomes: &[BadListing],
+        pair: before_inverters,
     },
     Sort {
         name: "n, m or k",
@@ -288,6 +338,40 @@ fn other_sizes_line(seeded: &mut Seeded, change: Change) -> Pair {
     Pair { listing: with_other_sizes(seeded, &listing), text }
 }
 
+/// Our listing with a change in its lines, and a second line that is broken or missing.
+fn broken_mask(seeded: &mut Seeded, change: Change) -> Pair {
+    let (design, text) = drawn_with_terms(seeded);
+    let mut listing = ours_read(&design, &text);
+    change(seeded, &mut listing);
+    Pair { listing: with_broken_mask(seeded, &listing), text }
+}
+
+/// A listing with a broken mask beside a text of other sizes or of another family, or with another k, which
+/// breaks line 1 where it has two digits.
+fn broken_mask_of_other_sizes(seeded: &mut Seeded) -> Pair {
+    let ((design, text), (other, _)) = (drawn(seeded), drawn(seeded));
+    let mut listing = any_listing(seeded, &other);
+    if sizes(&design) == sizes(&other) || seeded.once_in(3) {
+        listing.k = seeded.within(4, 15);
+    }
+    Pair { text, listing: with_broken_mask(seeded, &listing) }
+}
+
+fn broken_mask_beside_k(seeded: &mut Seeded) -> Pair {
+    let (design, _) = drawn(seeded);
+    let listing = any_listing(seeded, &design);
+    let text = Design::kronecker(design.n, design.m, design.table).text();
+    Pair { text, listing: with_broken_mask(seeded, &listing) }
+}
+
+/// The listing of any member without inverters and without a second line.
+fn before_inverters(seeded: &mut Seeded) -> Pair {
+    let (design, text) = drawn(seeded);
+    let member = any_member(seeded, design.n, design.k());
+    let expansion = Expansion::giving(design.n, member, 0, &design.table);
+    Pair { text, listing: Listing::of(&design, &expansion).bytes_with("") }
+}
+
 fn other_byte(seeded: &mut Seeded) -> Pair {
     let (_, text) = drawn_with_terms(seeded);
     Pair { listing: with_other_byte(seeded, &ours(&text)), text }
@@ -335,9 +419,13 @@ fn member_of_another(seeded: &mut Seeded) -> Pair {
     Pair { listing: any_listing(seeded, &other).bytes(), text: design.text() }
 }
 
+/// What the first line of a listing is compared with.
+fn sizes(design: &Design) -> (Family, usize, usize, Kind) {
+    (design.family, design.n, design.m, design.kind)
+}
+
 fn other_sizes(seeded: &mut Seeded) -> Pair {
     let ((design, text), (other, _)) = (drawn(seeded), drawn(seeded));
-    let sizes = |design: &Design| (design.family, design.n, design.m, design.kind);
     if sizes(&design) == sizes(&other) {
         return other_sizes(seeded);
     }
@@ -346,10 +434,11 @@ fn other_sizes(seeded: &mut Seeded) -> Pair {
 
 fn no_term(seeded: &mut Seeded) -> Pair {
     let (mut design, _) = drawn(seeded);
+    let listing = empty_listing(seeded, &design);
     if seeded.once_in(2) {
-        design.table.fill(0);
+        design.table.fill(listing.inverted);
     }
-    Pair { listing: empty_listing(seeded, &design).bytes(), text: design.text() }
+    Pair { listing: listing.bytes(), text: design.text() }
 }
 
 /// Drawn cubes beside the table that they give, with a change in it.
@@ -460,7 +549,7 @@ fn marked_texts() {
         check_answer(&bytes(text), &bytes(EXAMPLE_LISTING), [12, 1, 0, 0]);
     }
     for (text, number, line) in refused() {
-        for listing in [EXAMPLE_LISTING, EXAMPLE_LISTING_TWO, b"", b"form 9 9 9 1 2 2 2\n"] {
+        for listing in [EXAMPLE_LISTING, EXAMPLE_LISTING_TWO, EXAMPLE_BEFORE, b""] {
             check_answer(&bytes(text), &bytes(listing), [number, line, 0, 0]);
         }
     }
@@ -523,7 +612,7 @@ fn every_place_edited() {
     }
 }
 
-/// Every M and every i below 300, with no `term` line and with the lines of the example.
+/// Every M and every i below 300, with no `term` line and with the lines of the example, and every mask.
 #[test]
 fn every_mixed_set_and_polarity() {
     let example = Design::block(2, 2, 1, vec![2, 1, 1, 1]);
@@ -535,6 +624,9 @@ fn every_mixed_set_and_polarity() {
             for (mixed, fixed) in [(number, 0), (number, 2), (1, number), (3, number)] {
                 check_pair(&text, &Listing { mixed, fixed, ..listing.clone() }.bytes());
             }
+        }
+        for inverted in masks(design.m) {
+            check_pair(&text, &Listing { inverted, ..listing.clone() }.bytes());
         }
     }
 }
@@ -557,10 +649,11 @@ fn long_listings() {
             check_pair(&text, &damaged);
         }
     }
-    let first = bytes(b"form 2 2 1 1 2 2 2\n");
     for byte in [0, 9, 10, b'-', b'0', b'e', 255] {
         let long = vec![byte; 20_000];
-        assert_eq!(check_pair(&bytes(EXAMPLE), &long), BadListing);
-        assert_eq!(check_pair(&bytes(EXAMPLE), &[&first[..], &long].concat()), BadListing);
+        for start in [&b""[..], b"form 2 2 1 1 2 1 2\n", b"form 2 2 1 1 2 1 2\ninv 10\n"] {
+            let listing = [bytes(start), long.clone()].concat();
+            assert_eq!(check_pair(&bytes(EXAMPLE), &listing), BadListing);
+        }
     }
 }

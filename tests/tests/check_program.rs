@@ -3,7 +3,7 @@
 use outside_cases::check::printed;
 use outside_cases::family::Family;
 use outside_cases::marked::families::{EXAMPLE_LISTING_TWO, EXAMPLE_TWO};
-use outside_cases::marked::pairs::{self, EXAMPLE_LISTING};
+use outside_cases::marked::pairs::{self, EXAMPLE_BEFORE, EXAMPLE_LISTING};
 use outside_cases::marked::{EXAMPLE, bytes};
 use outside_cases::program::{JUDGED_BYTES, Written, run_check};
 use outside_cases::seeded::Seeded;
@@ -33,10 +33,12 @@ fn check_files(text: &[u8], listing: &[u8]) {
 fn lines() {
     let (x2, own) = (bytes(b"table 2 1 0\non 2 1\non 3 1\nend\n"), bytes(EXAMPLE_LISTING));
     assert_eq!(written(&bytes(EXAMPLE), &own), b"same\n");
-    assert_eq!(written(&x2, &bytes(b"form 2 1 0 0 0 0 0\nend\n")), b"differs\t2\n");
-    assert_eq!(written(&x2, &bytes(b"form 2 1 0 1 0 0 0\nend\n")), b"not of the class\n");
+    assert_eq!(written(&x2, &bytes(b"form 2 1 0 0 0 0 0\ninv 0\nend\n")), b"differs\t2\n");
+    assert_eq!(written(&x2, &bytes(b"form 2 1 0 1 0 0 0\ninv 0\nend\n")), b"not of the class\n");
     assert_eq!(written(&x2, &own), b"refused\t12\t1\n");
     assert_eq!(written(&x2, &bytes(b"form 2 1 0 0 0 0 0\n")), b"refused\t11\t2\n");
+    assert_eq!(written(&x2, &bytes(b"form 2 1 0 0 0 0 0\ninv 1\nend\n")), b"differs\t0\n");
+    assert_eq!(written(&bytes(EXAMPLE), &bytes(EXAMPLE_BEFORE)), b"refused\t11\t2\n");
     assert_eq!(written(b"", b""), b"refused\t6\t1\n");
     let (two, own_two) = (bytes(EXAMPLE_TWO), bytes(EXAMPLE_LISTING_TWO));
     assert_eq!(written(&two, &own_two), b"same\n");
@@ -48,7 +50,7 @@ fn lines() {
     let kron = bytes(b"kron 2 1 SP 1 1\nterm 1- 1\nend\n");
     assert_eq!(written(&kronecker, &kron), b"refused\t11\t1\n");
     let last = bytes(b"table 8 1 3\non 255 1\nend\n");
-    assert_eq!(written(&last, &bytes(b"form 8 1 3 7 0 0 0\nend\n")), b"differs\t255\n");
+    assert_eq!(written(&last, &bytes(b"form 8 1 3 7 0 0 0\ninv 0\nend\n")), b"differs\t255\n");
 }
 
 #[test]

@@ -1,11 +1,13 @@
 //! The designs of `examples/`: `rmform` writes each stored listing, the evaluator agrees, and `rmcheck` says
 //! `same` of a `form` or `form2` listing and refuses a `kron` listing with 11, line 1; the design that is there
-//! for both families; and the edited listings of `examples/checks/`, with the line that `rmcheck` writes for
-//! each.
+//! with its outputs the other way round, and the one for both families; and the edited listings of
+//! `examples/checks/`, with the line that `rmcheck` writes for each.
 
 use outside_cases::check;
+use outside_cases::class::before_inverters;
 use outside_cases::family::Family;
 use outside_cases::program::{run, run_check};
+use outside_cases::seeded::tables::output_bits;
 use outside_cases::text::listing::Listing;
 use outside_cases::text::{Design, Kind, printed};
 use std::fs::{read, read_dir};
@@ -38,7 +40,7 @@ fn first_word(text: &[u8]) -> &'static str {
 #[test]
 fn listings_are_written() {
     let tables = tables();
-    assert!(tables.len() >= 11, "{} designs", tables.len());
+    assert!(tables.len() >= 12, "{} designs", tables.len());
     for table in tables {
         let text = read(&table).expect("a table text");
         let listing = read(table.with_extension("listing")).expect("its listing");
@@ -57,6 +59,21 @@ fn listings_are_judged() {
         let listing = table.with_extension("listing");
         assert_eq!(run_check(&[&table, &listing]).stdout, wanted, "{}", table.display());
     }
+}
+
+/// One design with every output the other way round: the listing is the same but for the inverters.
+#[test]
+fn outputs_the_other_way_round() {
+    let tables = ["bcd-7-segment.table", "bcd-7-segment-low.table"];
+    let [plain, low] = tables.map(|name| {
+        let table = directory().join(name);
+        let design = design(&read(&table).expect("a table text"));
+        let listing = read(table.with_extension("listing")).expect("its listing");
+        (Listing::read(&design, &listing).expect("a sound listing"), design)
+    });
+    let mask = output_bits(plain.1.m);
+    assert_eq!(before_inverters(&plain.1.table, mask), low.1.table);
+    assert_eq!(Listing { inverted: plain.0.inverted ^ mask, ..plain.0 }, low.0);
 }
 
 /// One design for both families: the tables are the same, each listing is the cheaper one in its own family's
@@ -81,12 +98,15 @@ fn families_side_by_side() {
 }
 
 /// The listings of `examples/checks/` and the line for each beside the till's wake line, by hand.
-const CHECKS: [(&str, &str); 7] = [
+const CHECKS: [(&str, &str); 10] = [
     ("against-i", "not of the class\n"),
     ("block-disagrees", "not of the class\n"),
     ("dearer", "same\n"),
     ("differs", "differs\t4\n"),
-    ("line-moved", "refused\t11\t4\n"),
+    ("inverted", "differs\t0\n"),
+    ("inverter-and-constant", "same\n"),
+    ("line-moved", "refused\t11\t5\n"),
+    ("no-inverters", "refused\t11\t2\n"),
     ("other-family", "refused\t12\t1\n"),
     ("term-removed", "refused\t12\t1\n"),
 ];

@@ -5,6 +5,7 @@ use outside_cases::calls::{
     CheckAnswer, CompileAnswer, MinimiseAnswer, ReadAnswer, TransformAnswer,
 };
 use outside_cases::check::{Verdict, answer, check};
+use outside_cases::class::{Cost, Expansion, Member, minimise_answer};
 use outside_cases::family::Family;
 use outside_cases::marked::{EXAMPLE, bytes};
 use outside_cases::seeded::tables::longest_listing_table;
@@ -102,6 +103,32 @@ fn limits_and_lengths() {
         ("CHECK_ANSWER", CheckAnswer::default().len()),
     ] {
         assert_eq!(constants.get(&format!("MIPALDOZ_{name}")), Some(&number), "{name}");
+    }
+}
+
+/// The numbers of the minimising call's answer in their places: M, i, products, literals and the inversion mask,
+/// all different here.
+#[test]
+fn numbers_of_the_minimising_call() {
+    let constants = constants(&header());
+    let found = Expansion {
+        member: Member { mixed: 5, fixed: 2, blocks: Vec::new() },
+        coefficients: Vec::new(),
+        inverted: 9,
+        cost: Cost { products: 3, literals: 7 },
+    };
+    let answer = minimise_answer(Ok(&found));
+    for (name, number) in [
+        ("NUMBER", 0),
+        ("LINE", 0),
+        ("MIXED", 5),
+        ("FIXED", 2),
+        ("PRODUCTS", 3),
+        ("LITERALS", 7),
+        ("INVERTED", 9),
+    ] {
+        let place = constants.get(&format!("MIPALDOZ_{name}")).copied().expect(name);
+        assert_eq!(answer[place], number, "{name}");
     }
 }
 

@@ -84,8 +84,8 @@ fn every_size() {
 fn longest() {
     let block = Design::block(8, 8, 3, longest_listing_table());
     for (design, lengths) in [
-        (block.clone(), (4002, 5916)),
-        (block.of_family(Family::Two), (4003, 5917)),
+        (block.clone(), (4002, 5908)),
+        (block.of_family(Family::Two), (4003, 5909)),
         (Design::kronecker(8, 8, longest_listing_table()), (4002, 5919)),
     ] {
         let text = design.text();

@@ -7,7 +7,7 @@ use outside_cases::evaluator::{Refusal, places};
 use outside_cases::family::Family;
 use outside_cases::kronecker::{Kinds, order};
 use outside_cases::lent::{Lent, answer};
-use outside_cases::marked::families::{COMPARED, Compared, EXAMPLE_TWO, INPUTS, OUTPUTS};
+use outside_cases::marked::families::{COMPARED, Compared, EXAMPLE_TWO, OUTPUTS};
 use outside_cases::marked::{EXAMPLE, accepted, bytes, refused};
 use outside_cases::seeded::Seeded;
 use outside_cases::seeded::tables::{any_table, every_table, longest_listing_table, random_table};
@@ -286,13 +286,14 @@ fn table_lengths() {
     }
 }
 
-/// The longest listing of each family, and with `K`: all 256 products with eight outputs.
+/// The longest listing of each family, all 255 products besides the constant with eight outputs and an i of three
+/// digits; and with `K`, all 256 products.
 #[test]
 fn longest_listing() {
     let mut seeded = Seeded::new(53);
     let block = |k| Design::block(8, 8, k, longest_listing_table());
-    let one = (0..=3).map(|k| (block(k), 5916));
-    let two = (0..=3).map(|k| (block(k).of_family(Family::Two), 5917));
+    let one = (0..=3).map(|k| (block(k), 5908));
+    let two = (0..=3).map(|k| (block(k).of_family(Family::Two), 5909));
     let kronecker = (Design::kronecker(8, 8, longest_listing_table()), 5919);
     for (design, longest) in one.chain(two).chain([kronecker]) {
         let text = design.text();
@@ -436,13 +437,14 @@ fn kronecker_buffers() {
 #[test]
 fn compared_designs() {
     let mut seeded = Seeded::new(62);
-    for Compared { k, table, one, two, .. } in COMPARED {
+    for Compared { n, k, table, one, two, .. } in COMPARED {
         for (family, figures) in [(Family::One, one), (Family::Two, two)] {
-            let design = Design::block(INPUTS, OUTPUTS, k, table.to_vec()).of_family(family);
+            let design = Design::block(n, OUTPUTS, k, table.to_vec()).of_family(family);
             let text = design.text();
             check_text(&mut seeded, &text);
-            let Listing { mixed, fixed, stated, .. } = listed(&design, &text);
-            assert_eq!([mixed, fixed, stated.products, stated.literals], figures, "{design:?}");
+            let Listing { mixed, fixed, stated, inverted, .. } = listed(&design, &text);
+            let found = [mixed, fixed, stated.products, stated.literals, usize::from(inverted)];
+            assert_eq!(found, figures, "{design:?}");
         }
     }
 }
@@ -454,21 +456,25 @@ fn listed(design: &Design, text: &[u8]) -> Listing {
     Listing::read(design, written).expect("a sound listing")
 }
 
-/// The call's listing is no dearer in its family's order than every rival: each member that gives the table.
+/// The call's listing is before every rival in its family's order: each member with each inversion mask that
+/// gives the table.
 #[test]
 fn family_rivals() {
     let mut seeded = Seeded::new(63);
-    for n in 1..=INPUTS {
+    for n in 1..=4usize {
         for k in 0..=n.min(3) {
             let class = Class::new(n, k);
             for _ in 0..12 {
-                let m = seeded.within(1, 8);
+                let m = seeded.within(1, class.most_outputs());
                 let design = Design::block(n, m, k, any_table(&mut seeded, n, m));
                 for family in Family::ALL {
                     let design = design.clone().of_family(family);
-                    let ours = family.order(listed(&design, &design.text()).counted());
-                    let order = |rival| family.order(rival);
-                    assert!(class.rivals(&design.table).all(|rival| ours <= order(rival.cost)));
+                    let written = listed(&design, &design.text());
+                    let Listing { mixed, fixed, inverted, .. } = written;
+                    let ours = (family.order(written.counted()), inverted, mixed, fixed);
+                    assert!(
+                        class.rivals(m, &design.table).all(|rival| ours <= rival.order(family))
+                    );
                 }
             }
         }

@@ -53,12 +53,18 @@ fn number(field: &[u8], digits: usize) -> Option<usize> {
     Some(field.iter().fold(0, |sum, digit| 10 * sum + usize::from(digit - b'0')))
 }
 
-fn outputs(field: &[u8], m: usize) -> Option<u8> {
+/// m characters, each `0` or `1`.
+fn mask(field: &[u8], m: usize) -> Option<u8> {
     let mut byte = 0;
     for (o, &character) in field.iter().enumerate() {
         byte |= character.checked_sub(b'0').filter(|&bit| bit < 2)? << o;
     }
-    (field.len() == m && byte != 0).then_some(byte)
+    (field.len() == m).then_some(byte)
+}
+
+/// The same, not all `0`.
+fn outputs(field: &[u8], m: usize) -> Option<u8> {
+    mask(field, m).filter(|&byte| byte != 0)
 }
 
 fn read_table(text: &[u8]) -> Option<Table> {
@@ -98,6 +104,7 @@ fn read_cube(line: &[u8], n: usize, m: usize) -> Option<Cube> {
 struct Listing {
     mixed: usize,
     fixed: usize,
+    inverted: u8,
     cubes: [Cube; 256],
     products: usize,
 }
@@ -114,6 +121,8 @@ fn read_form(line: &[u8], sizes: [usize; 3]) -> Option<[usize; 4]> {
 fn read_listing(text: &[u8], sizes: [usize; 3]) -> Option<Listing> {
     let mut lines = lines(text)?;
     let [mixed, fixed, stated_products, stated_literals] = read_form(lines.next()?, sizes)?;
+    let [inverters] = fields(lines.next()?, b"inv")?;
+    let inverted = mask(inverters, sizes[1])?;
     let (mut cubes, mut products, mut literals, mut next) = ([Cube::default(); 256], 0, 0, 0);
     loop {
         let line = lines.next()?;
@@ -128,18 +137,18 @@ fn read_listing(text: &[u8], sizes: [usize; 3]) -> Option<Listing> {
     }
     let sound =
         lines.next().is_none() && [products, literals] == [stated_products, stated_literals];
-    sound.then_some(Listing { mixed, fixed, cubes, products })
+    sound.then_some(Listing { mixed, fixed, inverted, cubes, products })
 }
 
 /// The same check, written plainly.
 fn plain_check(text: &[u8], listing: &[u8]) -> Told {
     let Table { sizes, bytes } = read_table(text)?;
-    let Listing { mixed, fixed, cubes, products } = read_listing(listing, sizes)?;
+    let Listing { mixed, fixed, inverted, cubes, products } = read_listing(listing, sizes)?;
     let ([n, _, k], cubes) = (sizes, &cubes[..products]);
     if !of_the_class([n, k, mixed, fixed], cubes) {
         return Some([3, 0]);
     }
-    let differs = (0..1 << n).find(|&p| value(cubes, p) != bytes[p]);
+    let differs = (0..1 << n).find(|&p| value(cubes, p) ^ inverted != bytes[p]);
     Some(differs.map_or([1, 0], |point| [2, point as u64]))
 }
 

@@ -1,7 +1,7 @@
 //! Times the program `rmform` on tables of eight inputs, for both families and at every k, beside the same
 //! method in C. What a run on empty input takes, the start of the process, is taken off. A program given as the
-//! argument, as an `rmform` of an earlier commit, is timed in the same run, but for texts on which it writes
-//! something else.
+//! argument, as an `rmform` of an earlier commit, is timed in the same run, but for texts of which it writes no
+//! listing; the listing may be another, as one of before there were inverters.
 
 use outside_cases::c_search;
 use outside_cases::family::Family;
@@ -26,7 +26,7 @@ fn milliseconds(design: &Design, programs: [&Path; 2]) -> [f64; 3] {
     let mut search = || {
         let (family, sizes) = (design.family, [N, design.m, design.k()]);
         let (table, filled) = (black_box(&design.table[..]), &mut coefficients);
-        c_search::minimise_for(family, sizes, table, filled, &mut blocks, &mut [0; 6]);
+        c_search::minimise_for(family, sizes, table, filled, &mut blocks, &mut [0; 7]);
     };
     let run = |program: usize, input: &[u8]| {
         drop(black_box(run_at(programs[program], &[input], || ())));
@@ -57,11 +57,12 @@ fn main() {
         for (family, k) in Family::ALL.into_iter().flat_map(|f| (0..=3).map(move |k| (f, k))) {
             let design = Design::block(N, m, k, table.clone()).of_family(family);
             let written = [&rmform, other].map(|program| run_at(program, &[&design.text()], || ()));
-            assert!(written[0].starts_with(family.form_word().as_bytes()), "a listing is written");
+            let listed = written.map(|bytes| bytes.starts_with(family.form_word().as_bytes()));
+            assert!(listed[0], "a listing is written");
             let [ours, theirs, c] = milliseconds(&design, [&rmform, other]);
             print!("{name}\t{}\t{k}\t{ours:.2}\t{c:.2}\t{:.2}", family.number(), ours / c);
             match before {
-                Some(_) if written[0] == written[1] => {
+                Some(_) if listed[1] => {
                     println!("\t{theirs:.2}\t{:.2}", ours / theirs);
                 }
                 Some(_) => println!("\t-\t-"),

@@ -30,7 +30,8 @@ struct Design<'a> {
 impl Design<'_> {
     fn minimise(&self, search: Search) -> (Vec<u8>, Vec<u8>, MinimiseAnswer) {
         let mut coefficients = vec![0; places(self.n)];
-        let (mut blocks, mut answer) = (vec![0; places(self.n - self.k)], [0; 6]);
+        let (mut blocks, mut answer) =
+            (vec![0; places(self.n - self.k)], MinimiseAnswer::default());
         let table = black_box(self.table);
         search(self.n, self.m, self.k, table, &mut coefficients, &mut blocks, &mut answer);
         (coefficients, blocks, answer)
@@ -49,14 +50,14 @@ impl Design<'_> {
 /// Longer than every listing.
 const ROOM: usize = 6000;
 
-/// The M, i, products and literals that the C code finds for a text.
-fn in_c(text: &Text) -> [usize; 4] {
+/// The M, i, products, literals and inversion mask that the C code finds for a text.
+fn in_c(text: &Text) -> [usize; 5] {
     let (mut coefficients, mut blocks) =
         (vec![0; places(text.n)], vec![0; places(text.n - text.k())]);
-    let (sizes, mut answer) = ([text.n, text.m, text.k()], [0; 6]);
+    let (sizes, mut answer) = ([text.n, text.m, text.k()], MinimiseAnswer::default());
     let table = black_box(&text.table[..]);
     c_search::minimise_for(text.family, sizes, table, &mut coefficients, &mut blocks, &mut answer);
-    [2, 3, 4, 5].map(|place| answer[place] as usize)
+    [2, 3, 4, 5, 6].map(|place| answer[place] as usize)
 }
 
 /// Seconds for the text call and for the C code.
@@ -64,8 +65,8 @@ fn text_seconds(text: &Text) -> [f64; 2] {
     let (written, mut output, mut answer) = (text.text(), [0; ROOM], [0; 3]);
     calls::compile(&written, &mut output, &mut answer);
     let listing = Listing::read(text, &output[..answer[2] as usize]).expect("a sound listing");
-    let Listing { mixed, fixed, stated, .. } = listing;
-    let found = [mixed, fixed, stated.products, stated.literals];
+    let Listing { mixed, fixed, stated, inverted, .. } = listing;
+    let found = [mixed, fixed, stated.products, stated.literals, usize::from(inverted)];
     assert_eq!(found, in_c(text), "the two disagree");
     let mut call = || calls::compile(black_box(&written), black_box(&mut output), &mut answer);
     side_by_side(15, 8, [&mut call, &mut || assert!(black_box(in_c(text))[2] <= 256)])

@@ -1,96 +1,124 @@
 //! Designs on which the order of costs decides, with the answers of both families, and texts that begin with
 //! `table2` on both sides of each refusal. The texts are written as the others are, with a space for each tab.
 
-/// M, i, products, literals.
-pub type Figures = [usize; 4];
+/// M, i, products, literals, inversion mask.
+pub type Figures = [usize; 5];
 
-/// A design of four inputs and two outputs with the answers of both families at one k. Tables of fewer inputs,
-/// or of four inputs and one output, have the same answers in both.
+/// A design of two outputs with the answers of both families at one k. Tables of fewer than four inputs, or of
+/// four inputs and one output, have the same answers in both.
 pub struct Compared {
+    pub n: usize,
     pub k: usize,
-    pub table: &'static [u8; 16],
+    pub table: &'static [u8],
     pub one: Figures,
     pub two: Figures,
-    /// The answer if equal charges went to fewest literals, and if a product were charged 3.
-    pub misread: Figures,
+    /// The answer if equal charges went to fewest literals, and if a product were charged 3. With five inputs
+    /// there are too many members to try.
+    pub misread: Option<Figures>,
 }
 
-pub const INPUTS: usize = 4;
 pub const OUTPUTS: usize = 2;
 
-const fn compared(
+/// A design of four inputs.
+const fn four(
     k: usize,
     table: &'static [u8; 16],
     one: Figures,
     two: Figures,
     misread: Figures,
 ) -> Compared {
-    Compared { k, table, one, two, misread }
+    Compared { n: 4, k, table, one, two, misread: Some(misread) }
+}
+
+/// A design of five inputs.
+const fn five(k: usize, table: &'static [u8; 32], one: Figures, two: Figures) -> Compared {
+    Compared { n: 5, k, table, one, two, misread: None }
 }
 
 #[rustfmt::skip]
-pub const COMPARED: [Compared; 8] = [
-    // The families choose differently: a product more, and five literals less. Output 0 of the first design is
-    // on where exactly two of x1, x2, x3 are, output 1 where x1, x4 and one or both of x2, x3 are.
-    compared(0, &[0, 0, 0, 1, 0, 1, 1, 0, 0, 0, 0, 3, 0, 3, 1, 2], [0, 0, 7, 19], [0, 6, 8, 14], [0, 6, 8, 14]),
-    compared(1, &[2, 0, 0, 2, 0, 3, 3, 0, 0, 2, 0, 0, 3, 0, 0, 3], [4, 10, 7, 19], [1, 4, 8, 14], [1, 4, 8, 14]),
-    compared(2, &[1, 3, 3, 2, 1, 3, 0, 1, 3, 2, 1, 3, 0, 1, 0, 0], [10, 4, 8, 20], [10, 1, 9, 15], [10, 1, 9, 15]),
-    compared(3, &[0, 0, 3, 0, 3, 3, 2, 3, 2, 1, 3, 2, 3, 0, 2, 3], [7, 0, 7, 19], [11, 4, 8, 14], [11, 4, 8, 14]),
-    // Two members have the least charge, and the one of fewer products is the answer.
-    compared(0, &[0, 0, 0, 1, 0, 1, 1, 1, 0, 2, 0, 0, 0, 0, 1, 0], [0, 0, 7, 18], [0, 0, 7, 18], [0, 6, 8, 14]),
-    compared(1, &[0, 1, 1, 0, 2, 0, 3, 1, 0, 0, 0, 1, 2, 0, 2, 0], [1, 12, 6, 15], [1, 12, 6, 15], [2, 4, 7, 11]),
-    compared(2, &[2, 1, 1, 0, 3, 0, 0, 1, 3, 0, 0, 1, 0, 0, 0, 1], [3, 12, 5, 14], [3, 12, 5, 14], [12, 3, 6, 10]),
-    compared(3, &[0, 0, 2, 0, 0, 0, 3, 1, 1, 1, 1, 1, 0, 0, 2, 0], [13, 0, 5, 15], [13, 0, 5, 15], [14, 1, 6, 11]),
+pub const COMPARED: [Compared; 7] = [
+    // The families choose differently: a product more, and five literals less or six.
+    four(0, &[0, 0, 0, 2, 0, 0, 3, 0, 0, 2, 3, 1, 0, 3, 1, 2], [0, 0, 9, 24, 0], [0, 11, 10, 19, 1], [0, 11, 10, 19, 1]),
+    four(1, &[2, 0, 0, 2, 0, 3, 3, 0, 0, 2, 0, 0, 3, 0, 0, 3], [4, 10, 7, 19, 0], [1, 4, 8, 14, 0], [1, 4, 8, 14, 0]),
+    five(2, &[2, 0, 3, 2, 3, 3, 0, 2, 1, 2, 3, 0, 1, 1, 0, 3, 1, 3, 0, 1, 1, 3, 2, 3, 1, 1, 2, 1, 1, 2, 0, 1],
+        [9, 16, 15, 46, 1], [5, 18, 16, 41, 0]),
+    five(3, &[0, 0, 3, 0, 0, 3, 1, 2, 3, 0, 3, 0, 2, 1, 1, 3, 1, 3, 2, 2, 1, 0, 0, 0, 3, 0, 1, 0, 3, 0, 3, 2],
+        [19, 8, 14, 44, 0], [11, 16, 15, 38, 0]),
+    // Two members have the least charge, and the one of fewer products is the answer, whatever the masks are.
+    four(0, &[0, 0, 0, 2, 0, 2, 3, 3, 0, 3, 1, 0, 3, 1, 2, 1], [0, 0, 9, 22, 0], [0, 0, 9, 22, 0], [0, 3, 10, 18, 2]),
+    four(1, &[0, 0, 0, 3, 3, 1, 0, 0, 3, 2, 0, 3, 0, 3, 3, 2], [2, 0, 8, 21, 0], [2, 0, 8, 21, 0], [1, 12, 9, 17, 0]),
+    four(3, &[1, 2, 0, 3, 1, 2, 2, 3, 0, 1, 2, 3, 1, 1, 1, 1], [11, 4, 7, 20, 1], [11, 4, 7, 20, 1], [13, 0, 8, 16, 2]),
 ];
 
 /// Document 01's example for family two, with its listing.
 pub const EXAMPLE_TWO: &[u8] = b"table2 2 2 1\non 0 01\non 1 10\non 2 10\non 3 10\nend\n";
-pub const EXAMPLE_LISTING_TWO: &[u8] = b"form2 2 2 1 1 2 2 2\nterm -- 10\nterm 00 11\nend\n";
+pub const EXAMPLE_LISTING_TWO: &[u8] = b"form2 2 2 1 1 2 1 2\ninv 10\nterm 00 11\nend\n";
 
 /// Texts that are accepted, each with its listing.
-pub const ACCEPTED: [(&[u8], &[u8]); 15] = [
+pub const ACCEPTED: [(&[u8], &[u8]); 19] = [
     (EXAMPLE_TWO, EXAMPLE_LISTING_TWO),
-    (b"table2 2 2 1\nend\n", b"form2 2 2 1 1 0 0 0\nend\n"),
-    (b"table2 2 1 0\nend\n", b"form2 2 1 0 0 0 0 0\nend\n"),
-    (b"table2 2 1 -\nend\n", b"form2 2 1 1 1 0 0 0\nend\n"),
-    (b"table2 2 1 2\nend\n", b"form2 2 1 2 3 0 0 0\nend\n"),
-    (b"table2 1 1 -\non 0 1\non 1 1\nend\n", b"form2 1 1 1 1 0 1 0\nterm - 1\nend\n"),
-    (b"table2 1 1 0\non 0 1\nend\n", b"form2 1 1 0 0 1 1 1\nterm 0 1\nend\n"),
-    // Output 0 is x1, output 1 is x2 without x1: at k = 2 the charge is 15, at k = 1 it is 11.
+    (b"table2 2 2 1\nend\n", b"form2 2 2 1 1 0 0 0\ninv 00\nend\n"),
+    (b"table2 2 1 0\nend\n", b"form2 2 1 0 0 0 0 0\ninv 0\nend\n"),
+    (b"table2 2 1 -\nend\n", b"form2 2 1 1 1 0 0 0\ninv 0\nend\n"),
+    (b"table2 2 1 2\nend\n", b"form2 2 1 2 3 0 0 0\ninv 0\nend\n"),
+    // All one costs nothing.
+    (b"table2 1 1 -\non 0 1\non 1 1\nend\n", b"form2 1 1 1 1 0 0 0\ninv 1\nend\n"),
+    (
+        b"table2 2 2 2\non 0 11\non 1 11\non 2 11\non 3 11\nend\n",
+        b"form2 2 2 2 3 0 0 0\ninv 11\nend\n",
+    ),
+    (b"table2 1 1 0\non 0 1\nend\n", b"form2 1 1 0 0 1 1 1\ninv 0\nterm 0 1\nend\n"),
+    // Equal charges and equal products go to the least mask, then to the least M and i.
+    (
+        b"table2 2 2 0\non 0 01\non 1 01\non 2 10\non 3 10\nend\n",
+        b"form2 2 2 0 0 2 1 1\ninv 10\nterm 0- 11\nend\n",
+    ),
+    (
+        b"table2 2 2 1\non 0 01\non 1 01\non 2 10\nend\n",
+        b"form2 2 2 1 2 1 2 3\ninv 00\nterm 0- 01\nterm 10 10\nend\n",
+    ),
+    // Output 0 is x1, output 1 is x2 without x1: the charge is 11 at every k.
     (
         b"table2 2 2 1\non 1 10\non 2 01\non 3 10\nend\n",
-        b"form2 2 2 1 1 0 2 3\nterm -1 10\nterm 10 01\nend\n",
+        b"form2 2 2 1 1 0 2 3\ninv 00\nterm -1 10\nterm 10 01\nend\n",
     ),
     (
         b"table2 2 2 2\non 1 10\non 2 01\non 3 10\nend\n",
-        b"form2 2 2 2 3 0 3 3\nterm -- 10\nterm -0 10\nterm 10 01\nend\n",
+        b"form2 2 2 2 3 0 2 3\ninv 10\nterm -0 10\nterm 10 01\nend\n",
     ),
-    (b"table2 8 1 3\non 255 1\nend\n", b"form2 8 1 3 7 0 1 8\nterm 11111111 1\nend\n"),
+    // Output 0 is x1 and x3, output 1 is x2 and x3 without x1: the charge is 18 at k = 3, 13 at k = 2.
+    (
+        b"table2 3 2 3\non 5 10\non 6 01\non 7 10\nend\n",
+        b"form2 3 2 3 7 0 3 6\ninv 00\nterm 1-- 10\nterm 1-0 10\nterm 110 01\nend\n",
+    ),
+    (b"table2 8 1 3\non 255 1\nend\n", b"form2 8 1 3 7 0 1 8\ninv 0\nterm 11111111 1\nend\n"),
     (
         b"table2 8 8 0\non 0 00000001\nend\n",
-        b"form2 8 8 0 0 255 1 8\nterm 00000000 00000001\nend\n",
+        b"form2 8 8 0 0 255 1 8\ninv 00000000\nterm 00000000 00000001\nend\n",
     ),
-    // The charges of these two are 47 and 46: family one takes fewer products, family two the lower charge.
+    // The charges of these two are 60 and 59: family one takes fewer products, family two the lower charge.
     (
-        b"table 4 2 0\non 3 10\non 5 10\non 6 10\non 11 11\non 13 11\non 14 10\non 15 01\nend\n",
-        b"form 4 2 0 0 0 7 19\nterm --11 10\nterm -1-1 10\nterm -11- 10\nterm -111 10\nterm 1-11 01\n\
-          term 11-1 01\nterm 1111 01\nend\n",
-    ),
-    (
-        b"table2 4 2 0\non 3 10\non 5 10\non 6 10\non 11 11\non 13 11\non 14 10\non 15 01\nend\n",
-        b"form2 4 2 0 0 6 8 14\nterm ---- 10\nterm ---1 10\nterm --0- 10\nterm -0-- 10\nterm -00- 10\n\
-          term -001 10\nterm 1--1 01\nterm 1001 01\nend\n",
-    ),
-    // With i = 6 there are 8 products and 14 literals, the same charge of 46. Fewer products decide.
-    (
-        b"table 4 2 0\non 3 10\non 5 10\non 6 10\non 7 10\non 9 01\non 14 10\nend\n",
-        b"form 4 2 0 0 0 7 18\nterm --11 10\nterm -1-1 10\nterm -11- 10\nterm 1--1 01\nterm 1-11 11\n\
-          term 11-1 11\nterm 1111 11\nend\n",
+        b"table 4 2 0\non 3 01\non 6 11\non 9 01\non 10 11\non 11 10\non 13 11\non 14 10\non 15 01\nend\n",
+        b"form 4 2 0 0 0 9 24\ninv 00\nterm --11 01\nterm -11- 11\nterm -111 10\nterm 1--1 01\nterm 1-1- 11\n\
+          term 1-11 01\nterm 11-1 10\nterm 111- 10\nterm 1111 10\nend\n",
     ),
     (
-        b"table2 4 2 0\non 3 10\non 5 10\non 6 10\non 7 10\non 9 01\non 14 10\nend\n",
-        b"form2 4 2 0 0 0 7 18\nterm --11 10\nterm -1-1 10\nterm -11- 10\nterm 1--1 01\nterm 1-11 11\n\
-          term 11-1 11\nterm 1111 11\nend\n",
+        b"table2 4 2 0\non 3 01\non 6 11\non 9 01\non 10 11\non 11 10\non 13 11\non 14 10\non 15 01\nend\n",
+        b"form2 4 2 0 0 11 10 19\ninv 10\nterm ---0 01\nterm --0- 11\nterm -1-- 11\nterm -1-0 10\nterm -10- 01\n\
+          term 0--- 11\nterm 0-0- 10\nterm 0-00 01\nterm 01-- 10\nterm 0100 10\nend\n",
+    ),
+    // With i = 3 there are 10 products and 18 literals, the same charge of 58. Fewer products decide.
+    (
+        b"table 4 2 0\non 3 01\non 5 01\non 6 11\non 7 11\non 9 11\non 10 10\non 12 11\non 13 10\non 14 01\n\
+          on 15 10\nend\n",
+        b"form 4 2 0 0 0 9 22\ninv 00\nterm --11 01\nterm -1-1 01\nterm -11- 11\nterm 1--1 11\nterm 1-1- 10\n\
+          term 11-- 11\nterm 11-1 11\nterm 111- 11\nterm 1111 11\nend\n",
+    ),
+    (
+        b"table2 4 2 0\non 3 01\non 5 01\non 6 11\non 7 11\non 9 11\non 10 10\non 12 11\non 13 10\non 14 01\n\
+          on 15 10\nend\n",
+        b"form2 4 2 0 0 0 9 22\ninv 00\nterm --11 01\nterm -1-1 01\nterm -11- 11\nterm 1--1 11\nterm 1-1- 10\n\
+          term 11-- 11\nterm 11-1 11\nterm 111- 11\nterm 1111 11\nend\n",
     ),
 ];
 
@@ -170,18 +198,22 @@ mod tests {
     use crate::family::Family;
 
     fn figures(e: &Expansion) -> Figures {
-        [e.member.mixed, e.member.fixed, e.cost.products, e.cost.literals]
+        let inverted = usize::from(e.inverted);
+        [e.member.mixed, e.member.fixed, e.cost.products, e.cost.literals, inverted]
     }
 
-    /// The answers of both families by both searches.
+    /// The answers of both families, with four inputs by both searches.
     #[test]
     fn designs() {
-        for Compared { k, table, one, two, .. } in COMPARED {
-            let class = Class::new(INPUTS, k);
+        for Compared { n, k, table, one, two, .. } in COMPARED {
+            let class = (n == 4).then(|| Class::new(n, k));
             for (family, wanted) in [(Family::One, one), (Family::Two, two)] {
-                let found = least(family, INPUTS, k, table);
+                let found = least(family, n, k, table);
                 assert_eq!(figures(&found), wanted, "{family:?}, k = {k}, {table:?}");
-                assert_eq!(found, class.least(family, table));
+                assert_eq!(found.table(n), table);
+                if let Some(class) = &class {
+                    assert_eq!(found, class.least(family, OUTPUTS, table));
+                }
             }
         }
     }
@@ -190,12 +222,13 @@ mod tests {
     /// are marked.
     #[test]
     fn misreadings() {
-        for Compared { k, table, one, two, misread } in COMPARED {
-            let rivals: Vec<Expansion> = Class::new(INPUTS, k).rivals(table).collect();
+        for Compared { n, k, table, one, two, misread } in COMPARED {
+            let Some(misread) = misread else { continue };
+            let rivals: Vec<Expansion> = Class::new(n, k).rivals(OUTPUTS, table).collect();
             let first = |weighed: fn(usize, usize) -> [usize; 2]| {
                 let key = |e: &Expansion| {
                     let order = weighed(e.cost.products, e.cost.literals);
-                    (order, e.member.mixed, e.member.fixed)
+                    (order, e.inverted, e.member.mixed, e.member.fixed)
                 };
                 figures(rivals.iter().min_by_key(|e| key(e)).expect("a class is not empty"))
             };

@@ -32,7 +32,7 @@ pub const COMPARED: [Compared; 6] = [
     Compared {
         n: 2,
         table: SHANNON,
-        digits: &[[3, 3], [2, 3], [3, 3]],
+        digits: &[[2, 3], [2, 3], [2, 3]],
         letters: b"SP",
         kronecker: [2, 3],
     },
@@ -43,10 +43,11 @@ pub const COMPARED: [Compared; 6] = [
         letters: b"PS",
         kronecker: [1, 1],
     },
+    // An inverter is the constant at every k. "Kronecker listings have no inverters": there it is a product.
     Compared {
         n: 2,
         table: NEGATIVE,
-        digits: &[[2, 2], [2, 2], [2, 2]],
+        digits: &[[1, 2], [1, 2], [1, 2]],
         letters: b"NN",
         kronecker: [2, 2],
     },
@@ -66,11 +67,12 @@ pub const COMPARED: [Compared; 6] = [
         letters: b"SNN",
         kronecker: [3, 7],
     },
-    // With an output for each point every term is a product, whatever the class.
+    // With an output for each point every term is a product, whatever the class, but for the constant, which is
+    // an inverter at every k.
     Compared {
         n: 3,
         table: DECODER,
-        digits: &[[8, 12], [8, 12], [8, 12], [8, 12]],
+        digits: &[[7, 12], [7, 12], [7, 12], [7, 12]],
         letters: b"PPP",
         kronecker: [8, 12],
     },
@@ -82,7 +84,8 @@ pub const ACCEPTED: [(&[u8], &[u8]); 16] = [
     (b"table 2 2 K\nend\n", b"kron 2 2 SS 0 0\nend\n"),
     (b"table 1 1 K\nend\n", b"kron 1 1 S 0 0\nend\n"),
     (b"table 8 8 K\nend\n", b"kron 8 8 SSSSSSSS 0 0\nend\n"),
-    // All one: Davio ways, and of these the positive ones.
+    // All one: Davio ways, and of these the positive ones. "Kronecker listings have no inverters", so the
+    // constant is a product.
     (b"table 2 1 K\non 0 1\non 1 1\non 2 1\non 3 1\nend\n", b"kron 2 1 PP 1 0\nterm -- 1\nend\n"),
     // One point: Shannon's complemented literal costs what the negative Davio one costs, and comes first. A
     // complemented literal counts, though its bit in the term is 0.

@@ -1,7 +1,7 @@
 //! Listings: of any member, cheap or not, and with some change.
 
 use super::Seeded;
-use super::tables::any_table;
+use super::tables::{any_table, output_bits};
 use super::texts::TELLING_BYTES;
 use crate::class::{Expansion, Member, fixed_polarities, mixed_sets};
 use crate::evaluator::places;
@@ -17,10 +17,16 @@ pub fn any_member(seeded: &mut Seeded, n: usize, k: usize) -> Member {
     Member { mixed, fixed, blocks }
 }
 
-/// Any member of the class, with the coefficients that give the design's table.
+/// Any inversion mask of m outputs, once in three draws none inverted.
+pub fn any_mask(seeded: &mut Seeded, m: usize) -> u8 {
+    if seeded.once_in(3) { 0 } else { seeded.byte() & output_bits(m) }
+}
+
+/// Any member of the class and any mask, with the coefficients that give the design's table.
 pub fn any_expansion(seeded: &mut Seeded, design: &Design) -> Expansion {
     let member = any_member(seeded, design.n, design.k());
-    Expansion::giving(design.n, member, &design.table)
+    let inverted = any_mask(seeded, design.m);
+    Expansion::giving(design.n, member, inverted, &design.table)
 }
 
 /// The listing of any member of the class that gives the design's table.
@@ -28,21 +34,25 @@ pub fn any_listing(seeded: &mut Seeded, design: &Design) -> Listing {
     Listing::of(design, &any_expansion(seeded, design))
 }
 
-/// The listing of any member with any coefficients, in half of the draws with a literal complemented.
+/// The listing of any member with any coefficients and any mask, in half of the draws with a literal
+/// complemented.
 pub fn drawn_listing(seeded: &mut Seeded, design: &Design) -> Listing {
     let (n, m, k) = (design.n, design.m, design.k());
     let (member, coefficients) = (any_member(seeded, n, k), any_table(seeded, n, m));
-    let mut listing = Listing::of(design, &Expansion::new(n, member, coefficients));
+    let inverted = any_mask(seeded, m);
+    let mut listing = Listing::of(design, &Expansion::new(n, member, coefficients, inverted));
     if seeded.once_in(2) {
         complement_literal(seeded, &mut listing);
     }
     listing
 }
 
-/// The listing with no `term` line, and any numbers for M and i.
+/// The listing with no `term` line and any mask, and any numbers for M and i.
 pub fn empty_listing(seeded: &mut Seeded, design: &Design) -> Listing {
-    let nothing = Design { table: vec![0; places(design.n)], ..design.clone() };
-    let mut listing = any_listing(seeded, &nothing);
+    let (n, m, k) = (design.n, design.m, design.k());
+    let (member, inverted) = (any_member(seeded, n, k), any_mask(seeded, m));
+    let nothing = Expansion::new(n, member, vec![0; places(n)], inverted);
+    let mut listing = Listing::of(design, &nothing);
     if !seeded.once_in(3) {
         change_polarities(seeded, &mut listing);
     }
@@ -87,6 +97,51 @@ pub fn change_outputs(seeded: &mut Seeded, listing: &mut Listing) {
     if let Some(product) = any_product(seeded, listing) {
         product.outputs ^= 1 << output;
     }
+}
+
+/// Changes one character of the inversion mask.
+pub fn change_mask(seeded: &mut Seeded, listing: &mut Listing) {
+    listing.inverted ^= 1 << seeded.below(listing.m);
+}
+
+/// Inverts some outputs otherwise and puts the constant in for them, or takes it away, with true counts. The
+/// lines give what they gave.
+pub fn trade_inverters(seeded: &mut Seeded, listing: &mut Listing) {
+    let traded = seeded.within(1, usize::from(output_bits(listing.m))) as u8;
+    let constant = vec![b'-'; listing.n];
+    match listing.products.first_mut() {
+        Some(first) if first.cube == constant => first.outputs ^= traded,
+        _ => listing.products.insert(0, Product { cube: constant, outputs: traded }),
+    }
+    listing.products.retain(|product| product.outputs != 0);
+    listing.inverted ^= traded;
+    true_counts(listing);
+}
+
+/// The bytes of a listing with a broken second line, or with none, as listings were before there were
+/// inverters.
+pub fn with_broken_mask(seeded: &mut Seeded, listing: &Listing) -> Vec<u8> {
+    const WORDS: [&str; 9] = ["", "in", "Inv", "INV", "invs", "inv2", "term", "end", " inv"];
+    const CHARACTERS: [char; 8] = ['2', '-', '/', ':', 'x', ' ', '\t', '\0'];
+    const ENDS: [&str; 8] = ["0", "1", "\t", "\t0", "\t1", " ", "\r", "\0"];
+    let sound = listing.second_line();
+    let mask = sound["inv\t".len()..].trim_end();
+    let place = seeded.below(mask.len());
+    let second = match seeded.below(10) {
+        0 | 1 => String::new(),
+        2 => format!("inv\t{}\n", &mask[1..]),
+        3 => format!("inv\t{mask}{}\n", seeded.pick(&ENDS)),
+        4 => format!("{}\t{mask}\n", seeded.pick(&WORDS)),
+        5 => {
+            let other = seeded.pick(&CHARACTERS);
+            format!("inv\t{}{other}{}\n", &mask[..place], &mask[place + 1..])
+        }
+        6 => format!("inv{}{mask}\n", seeded.pick(&["", " ", "\t\t"])),
+        7 => format!("{}\n", seeded.pick(&["", "inv", "\t", mask])),
+        8 => sound.trim_end().to_string(),
+        _ => sound.repeat(2),
+    };
+    listing.bytes_with(&second)
 }
 
 /// Changes one of the counts by one or two, or into any other.

@@ -76,11 +76,13 @@ fn few_cubes(seeded: &mut Seeded, n: usize, m: usize) -> Vec<u8> {
     })
 }
 
-/// A table of eight inputs and outputs for which every member of every class has all 256 products, so
-/// that its listing is the longest. Byte p is a product of one factor for each input, in the field of
-/// 256 elements: 1 where the input is 0 and 2 where it is 1. A coefficient is then a product of factors
-/// 1, 2 and 1 + 2, and never 0.
+/// A table of eight inputs and outputs whose listings are the longest. Byte p is a product of one factor for
+/// each input, in the field of 256 elements: 2 where the input is 0 and 1 where it is 1. A coefficient is then a
+/// product of factors 1, 2 and 1 + 2, and never 0: a Kronecker expansion has all 256 products, and a member of the
+/// class all but the constant, which is the mask. The constant's coefficient is the byte at the point that its
+/// polarities name, so the least mask is the 1 at point 255: M is 2^k - 1, and i has all other inputs, a number
+/// of three digits.
 pub fn longest_listing_table() -> Vec<u8> {
     const POWERS_OF_2: [u8; 9] = [1, 2, 4, 8, 16, 32, 64, 128, 29];
-    table_of(8, 8, |p| POWERS_OF_2[literals(8, p)])
+    table_of(8, 8, |p| POWERS_OF_2[8 - literals(8, p)])
 }

@@ -56,13 +56,16 @@ pub fn read_number(field: &[u8], digits: usize) -> Option<usize> {
 
 /// m characters, leftmost output 0, each `0` or `1`, not all `0`.
 pub fn read_outputs(field: &[u8], m: usize) -> Option<u8> {
-    let sound = field.len() == m
-        && field.iter().all(|character| b"01".contains(character))
-        && field.contains(&b'1');
+    read_mask(field, m).filter(|&byte| byte != 0)
+}
+
+/// m characters, leftmost output 0, each `0` or `1`.
+pub fn read_mask(field: &[u8], m: usize) -> Option<u8> {
+    let sound = field.len() == m && field.iter().all(|character| b"01".contains(character));
     sound.then(|| (0..m).filter(|&o| field[o] == b'1').map(|o| 1 << o).sum())
 }
 
-/// The field of m outputs.
+/// The field of m outputs, or of their mask.
 pub fn outputs_field(m: usize, byte: u8) -> String {
     (0..m).map(|o| if (byte >> o) % 2 == 1 { '1' } else { '0' }).collect()
 }

@@ -119,6 +119,7 @@ mod tests {
             b"kron 2 2 SK 0 0\nend\n",
             b"kron 3 2 SN 0 0\nend\n",
             b"kron 2 2 SN 0 0\nend\nend\n",
+            b"kron 2 2 SN 0 0\ninv 00\nend\n",
             b"kron 2 2 SN 1 1\nterm -0 10\nend\n",
             b"kron 2 2 SN 1 1\nterm 01 10\nend\n",
             b"kron 2 2 SN 2 3\nterm 10 11\nterm 0- 10\nend\n",

@@ -1,7 +1,7 @@
 //! Listings of the block class, whose first word is `form` or `form2`: written from an expansion, and read
 //! back from their own lines.
 
-use super::fields::{Line, Lines, read_digit, read_number};
+use super::fields::{Line, Lines, outputs_field, read_digit, read_mask, read_number};
 use super::products::{Product, counted, term_lines, value};
 use super::{Design, Kind};
 use crate::class::{Cost, Expansion};
@@ -30,6 +30,8 @@ pub struct Listing {
     pub fixed: usize,
     /// The counts on the first line.
     pub stated: Cost,
+    /// The inversion mask on the second line.
+    pub inverted: u8,
     pub products: Vec<Product>,
 }
 
@@ -37,14 +39,15 @@ impl Listing {
     /// The listing of an expansion of a design.
     pub fn of(design: &Design, expansion: &Expansion) -> Self {
         let (family, n, m, k) = (design.family, design.n, design.m, design.k());
-        let Expansion { member, coefficients, cost } = expansion;
+        let Expansion { member, coefficients, inverted, cost } = expansion;
         let product = |t: usize| Product {
             cube: cube_field(n, t, member.polarity(n, t)).into_bytes(),
             outputs: coefficients[t],
         };
         let products = (0..places(n)).filter(|&t| coefficients[t] != 0).map(product).collect();
         let (mixed, fixed) = (member.mixed, member.fixed);
-        Listing { family, n, m, k, mixed, fixed, stated: *cost, products }
+        let (stated, inverted) = (*cost, *inverted);
+        Listing { family, n, m, k, mixed, fixed, stated, inverted, products }
     }
 
     /// The first line, with its byte 10.
@@ -55,10 +58,20 @@ impl Listing {
         format!("{word}\t{n}\t{m}\t{k}\t{mixed}\t{fixed}\t{counts}\n")
     }
 
+    /// The second line, with its byte 10: "`inv` and m characters".
+    pub fn second_line(&self) -> String {
+        format!("inv\t{}\n", outputs_field(self.m, self.inverted))
+    }
+
     /// All lines.
     pub fn bytes(&self) -> Vec<u8> {
+        self.bytes_with(&self.second_line())
+    }
+
+    /// All lines, with this text for the second.
+    pub fn bytes_with(&self, second: &str) -> Vec<u8> {
         let terms = term_lines(self.m, &self.products);
-        [self.first_line().as_bytes(), &terms, b"end\n"].concat()
+        [self.first_line().as_bytes(), second.as_bytes(), &terms, b"end\n"].concat()
     }
 
     /// Reads a listing beside the design of its table text. 12, line 1, where the family, n, m or the kind of
@@ -71,6 +84,8 @@ impl Listing {
         if own != (design.family, design.n, design.m, design.kind) {
             return Err(first.refusal(12));
         }
+        let second = next_line(&mut lines)?;
+        listing.inverted = read_second(&second, listing.m).ok_or(second.refusal(11))?;
         loop {
             let line = next_line(&mut lines)?;
             if line.fields == [b"end"] {
@@ -100,6 +115,7 @@ impl Listing {
             mixed: number(mixed)?,
             fixed: number(fixed)?,
             stated: Cost { products: number(products)?, literals: number(literals)? },
+            inverted: 0,
             products: Vec::new(),
         })
     }
@@ -111,15 +127,21 @@ impl Listing {
         above.then_some(product)
     }
 
-    /// The exclusive OR of the outputs on the `term` lines whose cube is true at p.
+    /// The exclusive OR of the outputs on the `term` lines whose cube is true at p, "then inverted where marked".
     pub fn value(&self, p: usize) -> u8 {
-        value(&self.products, p)
+        value(&self.products, p) ^ self.inverted
     }
 
     /// The counts that the `term` lines have.
     pub fn counted(&self) -> Cost {
         counted(&self.products)
     }
+}
+
+/// `inv` and m characters.
+fn read_second(line: &Line, m: usize) -> Option<u8> {
+    let [b"inv", mask] = line.fields[..] else { return None };
+    read_mask(mask, m)
 }
 
 /// The next line of a listing. 11 where the listing has stopped or the line's byte 10 is missing.
@@ -138,14 +160,22 @@ mod tests {
     #[test]
     fn a_listing_is_read_from_its_lines() {
         let design = Design::block(2, 2, 1, vec![0; 4]);
-        let written = bytes(b"form 2 2 1 1 2 2 2\nterm -- 10\nterm -0 11\nend\n");
-        let listing = Listing::read(&design, &written).expect("a sound listing");
-        assert_eq!((0..4).map(|p| listing.value(p)).collect::<Vec<u8>>(), [2, 1, 2, 1]);
-        assert_eq!(listing.counted(), Cost { products: 2, literals: 1 });
-        assert_eq!(listing.stated, Cost { products: 2, literals: 2 });
+        let lines = |inverters| {
+            let written =
+                format!("form 2 2 1 1 2 2 2\ninv {inverters}\nterm -- 10\nterm -0 11\nend\n");
+            Listing::read(&design, &bytes(written.as_bytes())).expect("a sound listing")
+        };
+        for (inverters, mask) in [("00", 0), ("10", 1), ("01", 2), ("11", 3)] {
+            let listing = lines(inverters);
+            let values: Vec<u8> = (0..4).map(|p| listing.value(p)).collect();
+            assert_eq!(values, [2, 1, 2, 1].map(|value| value ^ mask));
+            assert_eq!(listing.inverted, mask);
+            assert_eq!(listing.counted(), Cost { products: 2, literals: 1 });
+            assert_eq!(listing.stated, Cost { products: 2, literals: 2 });
+        }
     }
 
-    /// What is read is what was written: M, i, the counts, the cubes and the coefficients.
+    /// What is read is what was written: M, i, the counts, the inversion mask, the cubes and the coefficients.
     #[test]
     fn a_listing_is_read_as_it_was_written() {
         let mut seeded = Seeded::new(3);
