@@ -73,11 +73,11 @@ fn constants(rows: &[u64; 256], lanes: &[u8]) -> u64
     ensures { λ r. ⌜ r ≡ word 8 (coefficientIn (at (now (lanes .entry))) 0 0) ⌝ }
 {
     let mut all: u64 = 0;
-    let mut o: usize = 0;
-    while o < 8 {
-        let output = rows[lanes[o] as usize] & 0x0101010101010101;
-        all += output << o;
-        o += 1;
+    let mut output: usize = 0;
+    while output < 8 {
+        let first = rows[lanes[output] as usize] & 0x0101010101010101;
+        all += first << output;
+        output += 1;
     }
     all
 }
@@ -136,10 +136,10 @@ fn least_masked(k: usize, sums: u64, masks: u64) -> LeastSum
     let mut rest_masks = masks >> 8;
     let mut left: usize = count - 1;
     while 0 < left {
-        let sum = joined(rest, rest_masks);
-        if sum < least.sum {
+        let masked = joined(rest, rest_masks);
+        if masked < least.sum {
             least = LeastSum {
-                sum,
+                sum: masked,
                 polarity: ((count - left) & 255) as u8,
             };
         }

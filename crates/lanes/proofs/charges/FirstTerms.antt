@@ -2,7 +2,7 @@
 -- (`output-first`), and the bytes of terms without it (`even-bytes`).
 use mathlib.Core.Path.{_≡_, sym, ap, ap₂, _∙_}
 use mathlib.Core.List.{List}
-use Prim.Native.Nat.{ℕ, _+_, _-_, _*_, _/_, _%_, _^_, _≤_, _<_}
+use Prim.Native.Nat.{ℕ, _+_, _-_, _*_, _/_, _^_, _<_}
 use native.Mathlib.Omega.{arith}
 use lib.Bits.{bitAnd}
 use Rattle.numbers.specs.Bytes.{at}
@@ -46,9 +46,6 @@ module _ (used : ℕ) (fits : used < 2 ^ 64) where
       ∙ word-add 8 (λ φ. byte φ used / 2 * 2) (λ φ. bit 0 (byte φ used))
       ∙ word-ext 8 _ (λ φ. byte φ used) (λ φ l. omega (arith, bit-zero (byte φ used)))
       ∙ word-bytes 8 used fits
-
-  pub lowest-le : lowest used ≤ used
-  lowest-le = omega (arith, parts)
 
   pub even-bytes : used - lowest used ≡ word 8 (λ φ. byte φ used / 2 * 2)
   unfolding even

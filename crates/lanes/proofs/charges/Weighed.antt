@@ -1,10 +1,10 @@
 -- What a small sum stands for, as code computes it from the two weights of a family's rule: it is the charge (`weighed-is`), and it and its parts are
--- small (`outside-le`, `product-le`, `products-le`, `weighed-le`, `sumCharge-most`).
+-- small (`outside-le`, `product-le`, `products-le`, `weighed-le`, `sumCharge-most`, `masked-fits`).
 use mathlib.Core.Path.{_≡_, refl}
-use Prim.Native.Nat.{ℕ, _+_, _*_, _/_, _≤_, _<_}
+use Prim.Native.Nat.{ℕ, _+_, _*_, _/_, _^_, _≤_, _<_}
 use native.Mathlib.Nat.{mul-le-mul}
 use native.Mathlib.Omega.{arith}
-use lib.Bits.{bitAnd, and-mask, mask-lt}
+use lib.Bits.{bitAnd, and-mask, and-le-l, mask-lt}
 use Rattle.expansions.specs.declared.families.Family.{Family}
 use Rattle.expansions.specs.Rules.{weight, ruleOf}
 use Rattle.expansions.specs.inner.Charges.{sumCharge}
@@ -38,3 +38,7 @@ module _ (F : Family) (more sum product literal : ℕ) (ep : product ≡ ruleOf 
 pub sumCharge-most : (F : Family) (more sum : ℕ) → more ≤ 8 → sum < 256 → sumCharge (ruleOf F) more sum ≤ 15 * 8192 + 15 * 512
 sumCharge-most F more sum hm hs =
     rw (← weighed-is F more sum (ruleOf F .product) (ruleOf F .literal) refl refl) (weighed-le F more sum (ruleOf F .product) (ruleOf F .literal) refl refl hm hs)
+
+-- with a mask below it
+pub masked-fits : (charge sum mask : ℕ) → charge < 2 ^ 20 → sum < 65536 → charge * 256 + bitAnd sum mask < 2 ^ 32
+masked-fits charge sum mask hc hs = omega (arith, and-le-l sum mask)

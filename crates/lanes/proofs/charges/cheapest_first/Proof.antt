@@ -3,11 +3,11 @@ use borrow.Author.Needs.{needs}
 use mathlib.Core.Path.{ap}
 use Prim.Native.Nat.{ℕ, _+_, _*_, _/_, _^_, _<_}
 use native.Mathlib.Omega.{arith}
-use lib.Bits.{bitAnd, mask-lt}
+use lib.Bits.{bitAnd}
 use Rattle.numbers.specs.Bytes.{at}
 use Rattle.lanes.proofs.charges.BlockCosts.{first-cost}
 use Rattle.lanes.proofs.charges.Polarities.{pair-lt, cheapest-masked, cheapest-ext}
-use Rattle.lanes.proofs.charges.Weighed.{sumCharge-most}
+use Rattle.lanes.proofs.charges.Weighed.{sumCharge-most, masked-fits}
 use Rattle.lanes.proofs.charges.cheapest_first.Statement.{statement}
 use Rattle.lanes.proofs.charges.cheapest_first.Tie as tie
 
@@ -44,7 +44,7 @@ mul-t11 : tie.Need-mul-t11
 mul-t11 c = omega (arith, charge-lt c)
 
 add-t13 : tie.Need-add-t13
-add-t13 c = omega (arith, charge-lt (c .before), mask-lt (c .before .before .before .least-masked .result .sum) 8)
+add-t13 c = record { fits = masked-fits _ _ _ (charge-lt (c .before)) (sum-lt (c .before .before .before)) }
 
 returns : tie.Need-returns
 returns c =

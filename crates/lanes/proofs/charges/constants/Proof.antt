@@ -1,4 +1,4 @@
--- Each byte of the word has the bits of the outputs below o.
+-- Each byte of the word has the bits of the outputs below `output`.
 use borrow.Author.Needs.{needs}
 use mathlib.Core.Path.{_≡_, _∙_, ap}
 use Prim.Native.Nat.{ℕ, _+_, _*_, _-_, _≤_, _<_}
@@ -24,23 +24,23 @@ abbrev μ-loop : tie.MeasureT-loop
 
 -- a block function is a byte
 small : (c : tie.After-shared-slice-known Inv-loop μ-loop)
-    → at (c .before .before .before .args .lanes .now) (c .before .before .loop .o) < 256
-small c = c .shared-slice-known .given (c .before .before .loop .o) .fits
+    → at (c .before .before .before .args .lanes .now) (c .before .before .loop .output) < 256
+small c = c .shared-slice-known .given (c .before .before .loop .output) .fits
 
 loop-holds : tie.Need-loop-holds Inv-loop μ-loop
 loop-holds c = (omega arith, word-pack-none _)
 
-shared-slice-read-output : tie.Need-shared-slice-read-output Inv-loop μ-loop
-shared-slice-read-output c = search needs
+shared-slice-read-first : tie.Need-shared-slice-read-first Inv-loop μ-loop
+shared-slice-read-first c = search needs
 
-cast-output : tie.Need-cast-output Inv-loop μ-loop
-cast-output c = omega (arith, small c)
+cast-first : tie.Need-cast-first Inv-loop μ-loop
+cast-first c = omega (arith, small c)
 
-mul-output : tie.Need-mul-output Inv-loop μ-loop
-mul-output c = omega (arith, small c)
+mul-first : tie.Need-mul-first Inv-loop μ-loop
+mul-first c = omega (arith, small c)
 
-element-copy-out-output : tie.Need-element-copy-out-output Inv-loop μ-loop
-element-copy-out-output c = small c
+element-copy-out-first : tie.Need-element-copy-out-first Inv-loop μ-loop
+element-copy-out-first c = small c
 
 shl-all : tie.Need-shl-all Inv-loop μ-loop
 shl-all c = search needs
@@ -51,12 +51,12 @@ add-all c =
     let a = c .before .before .before .before in
     omega (
       arith,
-      word-pack-fits (l .o) (l .all) _ (λ φ p. bit 0 (entry (at (a .args .lanes .now) p) φ)) (c .before .before .loop-test .taken)
+      word-pack-fits (l .output) (l .all) _ (λ φ p. bit 0 (entry (at (a .args .lanes .now) p) φ)) (c .before .before .loop-test .taken)
           (λ φ p. bit-lt 0 _) (l .inv .1) (output-first (a .args .rows .now) _ (a .pre .0) (small (c .before))),
     )
 
-add-o : tie.Need-add-o Inv-loop μ-loop
-add-o c = search needs
+add-output : tie.Need-add-output Inv-loop μ-loop
+add-output c = search needs
 
 loop-less : tie.Need-loop-less Inv-loop μ-loop
 loop-less c = search needs
@@ -66,7 +66,7 @@ loop-again c =
     let l = c .before .before .before .loop in
     let a = c .before .before .before .before in (
       search needs,
-      word-pack-more (l .o) (l .all) _ (λ φ p. bit 0 (entry (at (a .args .lanes .now) p) φ)) (c .before .before .loop-test .taken)
+      word-pack-more (l .output) (l .all) _ (λ φ p. bit 0 (entry (at (a .args .lanes .now) p) φ)) (c .before .before .loop-test .taken)
           (λ φ p. bit-lt 0 _) (l .inv .1) (output-first (a .args .rows .now) _ (a .pre .0) (small (c .before))),
     )
 
@@ -75,7 +75,7 @@ unfolding coefficientIn
 returns c =
     let l = c .before .loop in
     let a = c .before .before .args in
-    let e : l .o ≡ 8 = omega arith in
+    let e : l .output ≡ 8 = omega arith in
     l .inv .1 ∙ ap (λ (o : ℕ). word 8 (λ φ. pack o (λ p. bit 0 (entry (at (a .lanes .now) p) φ)))) e
     ∙ word-ext 8 _ _ (λ φ h. pack-ext 8 _ _ (λ p l. ap (λ (q : ℕ). bit 0 (entry (at (a .lanes .now) q) φ)) (first p)))
   where
@@ -90,13 +90,13 @@ constants-spec =
     Inv-loop
     μ-loop
     loop-holds
-    shared-slice-read-output
-    cast-output
-    mul-output
-    element-copy-out-output
+    shared-slice-read-first
+    cast-first
+    mul-first
+    element-copy-out-first
     shl-all
     add-all
-    add-o
+    add-output
     loop-less
     loop-again
     returns)

@@ -1,11 +1,12 @@
 -- The lowest bit of each byte is taken off.
 use native.Mathlib.Omega.{arith}
-use Rattle.lanes.proofs.charges.FirstTerms.{lowest-le, even-bytes}
+use lib.Bits.{and-le-l}
+use Rattle.lanes.proofs.charges.FirstTerms.{even-bytes}
 use Rattle.lanes.proofs.charges.without_constants.Statement.{statement}
 use Rattle.lanes.proofs.charges.without_constants.Tie as tie
 
 sub-result : tie.Need-sub-result
-sub-result c = lowest-le (c .args .used) (omega (arith, c .fits .used))
+sub-result c = and-le-l (c .args .used) _
 
 returns : tie.Need-returns
 returns c = even-bytes (c .args .used) (omega (arith, c .fits .used))
