@@ -5,8 +5,9 @@
  *     rt staticlib capi                                          writes target/staticlib/libcapi.a
  *     cc -Iinclude program.c target/staticlib/libcapi.a          links it; no other library is needed
  *
- * docs/GUIDE.md says what a table text, a listing, the numbers n, m, k, M and i, the kinds of k and the two families of parts are,
- * docs/SPECIFICATION.md gives the exact rules, and docs/CONTRACTS.md what is proved of each call. examples/compile.c is a whole program.
+ * docs/GUIDE.md says what a table text, a listing, the numbers n, m, k, M and i, the inversion mask, the kinds of k and the two families of
+ * parts are, docs/SPECIFICATION.md gives the exact rules, and docs/CONTRACTS.md what is proved of each call. examples/compile.c is a whole
+ * program.
  *
  * Buffers. A buffer is passed as a pointer to its first byte and then its length in bytes. The caller sees to three things, which no call
  * can check:
