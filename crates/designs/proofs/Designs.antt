@@ -46,7 +46,8 @@ use Rattle.table_texts.specs.Read.{withDesign, judgedFirst, allLines, reading}
 use Rattle.text.specs.Compile.{answerListing}
 use Rattle.text.specs.Print.{refusedLine, printedFor, printed}
 use Rattle.designs.specs.Designs.{costOf, termsBelow, computed, Design, states, Holds, markedDesigns}
-use Rattle.designs.specs.Designs.{orTable, zeroTable, oneTable, pointTable, withoutTable, dearerTable, oppositeTable, printedTable, splitTable, plainTable, endsTable, oneOfThreeTable, familiesTable, tieTable}
+use Rattle.designs.specs.Designs.{orTable, zeroTable, oneTable, pointTable, withoutTable, dearerTable, oppositeTable, printedTable}
+use Rattle.designs.specs.Designs.{splitTable, plainTable, endsTable, oneOfThreeTable, familiesTable, tieTable}
 
 -- ---- the test
 
@@ -105,6 +106,6 @@ module _ (k cost literals : ℕ) where
 pub larger-k-dearer : products 3 (answerCoefficient One 3 2 (at dearerTable)) < products 3 (answerCoefficient One 3 3 (at dearerTable))
 unfolding markedDesigns row
 larger-k-dearer =
-    let two = row-products 2 2 5 (search (List·Memᴰ·head, List·Memᴰ·tail) depth 30) in
-    let three = row-products 3 3 6 (search (List·Memᴰ·head, List·Memᴰ·tail) depth 30) in
+    let two = row-products 2 2 5 (search (List·Memᴰ·head, List·Memᴰ·tail) depth 16) in
+    let three = row-products 3 3 6 (search (List·Memᴰ·head, List·Memᴰ·tail) depth 16) in
     omega arith

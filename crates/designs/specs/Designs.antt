@@ -50,11 +50,11 @@ pub data Asked : Type 0 where
   -- the listing of a record of n inputs, m outputs and k mixed inputs, for a part of the family
   listingOf : Family → (n m k : ℕ) → Expansion → Asked
   -- the numbers on the first line of a listing
-  firstLineOf : String → Asked
+  firstLineOf : List ℕ → Asked
   -- the products and the literals of a listing, counted on its `term` lines
-  countsOf : String → Asked
+  countsOf : List ℕ → Asked
   -- the table of n inputs that a listing gives, read from its own lines
-  tableOf : (n : ℕ) → String → Asked
+  tableOf : (n : ℕ) → List ℕ → Asked
 
 -- the terms below N that have a coefficient, ascending
 unfoldable pub termsBelow : ℕ → (ℕ → ℕ) → List ℕ
@@ -107,11 +107,11 @@ computed (kindFor n table) = kindCosts n table
 computed (meaningOf text) = meaning (reading (bytes text))
 computed (printedOf text) = printed (bytes text)
 computed (listingOf family n m k e) = listing family n m k e
-computed (firstLineOf text) = firstNumbers (bytes text)
-computed (countsOf text) = listingProducts (bytes text) ∷ listingLiterals (bytes text) ∷ []
-computed (tableOf n text) = tabulate (2 ^ n) (listingValue (bytes text))
+computed (firstLineOf s) = firstNumbers s
+computed (countsOf s) = listingProducts s ∷ listingLiterals s ∷ []
+computed (tableOf n s) = tabulate (2 ^ n) (listingValue s)
 
--- a row: what is asked, and the numbers that document 01 answers with
+-- a row: what is asked, and the numbers that the documents answer with
 pub data Design : Type 0 where
   states : Asked → List ℕ → Design
 
@@ -231,9 +231,10 @@ familiesText =
     "table2\t4\t2\t0\non\t3\t01\non\t6\t11\non\t9\t01\non\t10\t11\non\t11\t10\non\t13\t11\non\t14\t10\non\t15\t01\nend\n"
 
 -- and the listing that the evaluator writes for it
-abbrev pub familiesListing : String
+abbrev pub familiesListing : List ℕ
 familiesListing =
-    "form2\t4\t2\t0\t0\t11\t10\t19\ninv\t10\nterm\t---0\t01\nterm\t--0-\t11\nterm\t-1--\t11\nterm\t-1-0\t10\nterm\t-10-\t01\nterm\t0---\t11\nterm\t0-0-\t10\nterm\t0-00\t01\nterm\t01--\t10\nterm\t0100\t10\nend\n"
+    bytes "form2\t4\t2\t0\t0\t11\t10\t19\ninv\t10\nterm\t---0\t01\nterm\t--0-\t11\nterm\t-1--\t11\nterm\t-1-0\t10\n"
+    ++ bytes "term\t-10-\t01\nterm\t0---\t11\nterm\t0-0-\t10\nterm\t0-00\t01\nterm\t01--\t10\nterm\t0100\t10\nend\n"
 
 -- a table of four inputs on which two expansions have the least charge of family two
 unfoldable pub tieTable : List ℕ
@@ -266,6 +267,11 @@ markedDesigns =
     ∷ states (entryAt 150 7) (23 ∷ [])
     ∷ states (entryAt 136 0) (8 ∷ [])
     ∷ states (entryAt 12 5) (64 ∷ [])
+    -- document 02, W-207, "3 products at k = 3, yet 2 at k = 1": a larger k can be dearer
+    ∷ states (costOf One 3 0 dearerTable) (3 ∷ 6 ∷ [])
+    ∷ states (costOf One 3 1 dearerTable) (2 ∷ 5 ∷ [])
+    ∷ states (costOf One 3 2 dearerTable) (2 ∷ 5 ∷ [])
+    ∷ states (costOf One 3 3 dearerTable) (3 ∷ 6 ∷ [])
     -- "M = 2^k − 1, i = 0, 0 products", and so 0 literals, and no output inverted
     ∷ states (answerFor One 2 0 zeroTable) (0 ∷ 0 ∷ 0 ∷ 0 ∷ 0 ∷ [])
     ∷ states (answerFor One 2 1 zeroTable) (1 ∷ 0 ∷ 0 ∷ 0 ∷ 0 ∷ [])
@@ -284,15 +290,10 @@ markedDesigns =
     ∷ states (answerFor One 2 0 withoutTable) (0 ∷ 1 ∷ 2 ∷ 3 ∷ 1 ∷ [])
     ∷ states (answerFor One 2 1 withoutTable) (1 ∷ 0 ∷ 2 ∷ 3 ∷ 0 ∷ [])
     ∷ states (answerFor One 2 2 withoutTable) (3 ∷ 0 ∷ 2 ∷ 3 ∷ 1 ∷ [])
-    -- document 02, W-207, "3 products at k = 3, yet 2 at k = 1": a larger k can be dearer
-    ∷ states (costOf One 3 0 dearerTable) (3 ∷ 6 ∷ [])
-    ∷ states (costOf One 3 1 dearerTable) (2 ∷ 5 ∷ [])
-    ∷ states (costOf One 3 2 dearerTable) (2 ∷ 5 ∷ [])
-    ∷ states (costOf One 3 3 dearerTable) (3 ∷ 6 ∷ [])
     -- "Equal costs .. go to the least mask, then to the least M, i": mask 1 with i = 2, where i = 0 would invert output 1, mask 2
     ∷ states (answerFor One 2 0 oppositeTable) (0 ∷ 2 ∷ 1 ∷ 1 ∷ 1 ∷ [])
     ∷ states (printedOf oppositeText) (bytes oppositeListing)
-    ∷ states (tableOf 2 oppositeListing) oppositeTable
+    ∷ states (tableOf 2 (bytes oppositeListing)) oppositeTable
     -- "`inv 10` with the sole term `00 11`, 1 product and 2 literals"
     ∷ states (answerFor One 2 1 printedTable) (1 ∷ 2 ∷ 1 ∷ 2 ∷ 1 ∷ [])
     -- the printed example, from its text to its listing, byte for byte
@@ -349,8 +350,8 @@ markedDesigns =
     -- a text with `K`, from its text to its listing, byte for byte, and what the listing says
     ∷ states (meaningOf splitText) (accepted One 2 2 Kronecker (splitTable ++ replicate 252 0))
     ∷ states (printedOf splitText) (bytes splitListing)
-    ∷ states (countsOf splitListing) (2 ∷ 3 ∷ [])
-    ∷ states (tableOf 2 splitListing) splitTable
+    ∷ states (countsOf (bytes splitListing)) (2 ∷ 3 ∷ [])
+    ∷ states (tableOf 2 (bytes splitListing)) splitTable
     -- with `K` the order of line 1 is the same, and 4 cannot apply
     ∷ states (meaningOf "table\t9\t9\tK\nend\n") (refusal 2 1)
     ∷ states (meaningOf "table\t1\t9\tK\nend\n") (refusal 3 1)
@@ -360,8 +361,8 @@ markedDesigns =
     ∷ states (meaningOf printedText2) (accepted Two 2 2 (Block 1) (printedTable ++ replicate 252 0))
     ∷ states (printedOf printedText2) (bytes printedListing2)
     ∷ states (listingOf Two 2 2 1 (recorded (0 ∷ 0 ∷ 0 ∷ 3 ∷ []) (0 ∷ 1 ∷ []) 1 2 1 2 1)) (bytes printedListing2)
-    ∷ states (firstLineOf printedListing2) (2 ∷ 2 ∷ 1 ∷ 1 ∷ 2 ∷ 1 ∷ 2 ∷ [])
-    ∷ states (tableOf 2 printedListing2) printedTable
+    ∷ states (firstLineOf (bytes printedListing2)) (2 ∷ 2 ∷ 1 ∷ 1 ∷ 2 ∷ 1 ∷ 2 ∷ [])
+    ∷ states (tableOf 2 (bytes printedListing2)) printedTable
     -- with `table2` a `-` means 1, and the order of line 1 is the same
     ∷ states (meaningOf "table2\t2\t1\t-\nend\n") (accepted Two 2 1 (Block 1) zeros)
     ∷ states (meaningOf "table2\t9\t1\t1\nend\n") (refusal 2 1)
@@ -378,7 +379,7 @@ markedDesigns =
     ∷ states (answerFor One 4 0 familiesTable) (0 ∷ 0 ∷ 9 ∷ 24 ∷ 0 ∷ [])
     ∷ states (answerFor Two 4 0 familiesTable) (0 ∷ 11 ∷ 10 ∷ 19 ∷ 1 ∷ [])
     -- family two from its text to its listing, byte for byte, and what the listing says
-    ∷ states (printedOf familiesText) (bytes familiesListing)
+    ∷ states (printedOf familiesText) familiesListing
     ∷ states (countsOf familiesListing) (10 ∷ 19 ∷ [])
     ∷ states (tableOf 4 familiesListing) familiesTable
     -- 9 products with 22 literals and 10 with 18 have the charge 58 alike: "among equal charges by fewest products"; by 3 × products the other would be
@@ -387,36 +388,36 @@ markedDesigns =
     ∷ states (costAt 4 3 tieTable) (10 ∷ 18 ∷ [])
     -- the printed example's record, its listing, and what the listing says
     ∷ states (listingOf One 2 2 1 (recorded (0 ∷ 0 ∷ 0 ∷ 3 ∷ []) (0 ∷ 1 ∷ []) 1 2 1 2 1)) (bytes printedListing)
-    ∷ states (firstLineOf printedListing) (2 ∷ 2 ∷ 1 ∷ 1 ∷ 2 ∷ 1 ∷ 2 ∷ [])
-    ∷ states (countsOf printedListing) (1 ∷ 2 ∷ [])
-    ∷ states (tableOf 2 printedListing) printedTable
+    ∷ states (firstLineOf (bytes printedListing)) (2 ∷ 2 ∷ 1 ∷ 1 ∷ 2 ∷ 1 ∷ 2 ∷ [])
+    ∷ states (countsOf (bytes printedListing)) (1 ∷ 2 ∷ [])
+    ∷ states (tableOf 2 (bytes printedListing)) printedTable
     -- all zero at k = 2
     ∷ states (listingOf One 2 1 2 (recorded [] [] 3 0 0 0 0)) (bytes zeroListing)
-    ∷ states (firstLineOf zeroListing) (2 ∷ 1 ∷ 2 ∷ 3 ∷ 0 ∷ 0 ∷ 0 ∷ [])
-    ∷ states (countsOf zeroListing) (0 ∷ 0 ∷ [])
-    ∷ states (tableOf 2 zeroListing) zeroTable
+    ∷ states (firstLineOf (bytes zeroListing)) (2 ∷ 1 ∷ 2 ∷ 3 ∷ 0 ∷ 0 ∷ 0 ∷ [])
+    ∷ states (countsOf (bytes zeroListing)) (0 ∷ 0 ∷ [])
+    ∷ states (tableOf 2 (bytes zeroListing)) zeroTable
     -- all one at k = 0
     ∷ states (listingOf One 2 1 0 (recorded [] [] 0 0 0 0 1)) (bytes oneListing)
-    ∷ states (firstLineOf oneListing) (2 ∷ 1 ∷ 0 ∷ 0 ∷ 0 ∷ 0 ∷ 0 ∷ [])
-    ∷ states (countsOf oneListing) (0 ∷ 0 ∷ [])
-    ∷ states (tableOf 2 oneListing) oneTable
+    ∷ states (firstLineOf (bytes oneListing)) (2 ∷ 1 ∷ 0 ∷ 0 ∷ 0 ∷ 0 ∷ 0 ∷ [])
+    ∷ states (countsOf (bytes oneListing)) (0 ∷ 0 ∷ [])
+    ∷ states (tableOf 2 (bytes oneListing)) oneTable
     -- the constant beside an inverter: a product, and 0 at every point
     ∷ states (listingOf One 2 1 0 (recorded (1 ∷ []) [] 0 0 1 0 1)) (bytes cancelledListing)
-    ∷ states (countsOf cancelledListing) (1 ∷ 0 ∷ [])
-    ∷ states (tableOf 2 cancelledListing) zeroTable
+    ∷ states (countsOf (bytes cancelledListing)) (1 ∷ 0 ∷ [])
+    ∷ states (tableOf 2 (bytes cancelledListing)) zeroTable
     -- n = 1, only point 0 on
     ∷ states (listingOf One 1 1 0 (recorded (0 ∷ 1 ∷ []) [] 0 1 1 1 0)) (bytes pointListing)
-    ∷ states (firstLineOf pointListing) (1 ∷ 1 ∷ 0 ∷ 0 ∷ 1 ∷ 1 ∷ 1 ∷ [])
-    ∷ states (countsOf pointListing) (1 ∷ 1 ∷ [])
-    ∷ states (tableOf 1 pointListing) pointTable
+    ∷ states (firstLineOf (bytes pointListing)) (1 ∷ 1 ∷ 0 ∷ 0 ∷ 1 ∷ 1 ∷ 1 ∷ [])
+    ∷ states (countsOf (bytes pointListing)) (1 ∷ 1 ∷ [])
+    ∷ states (tableOf 1 (bytes pointListing)) pointTable
     -- OR of two inputs at w = 0
     ∷ states (listingOf One 2 1 0 (recorded (0 ∷ 1 ∷ 1 ∷ 1 ∷ []) [] 0 0 3 4 0)) (bytes orListing)
-    ∷ states (firstLineOf orListing) (2 ∷ 1 ∷ 0 ∷ 0 ∷ 0 ∷ 3 ∷ 4 ∷ [])
-    ∷ states (countsOf orListing) (3 ∷ 4 ∷ [])
-    ∷ states (tableOf 2 orListing) orTable
+    ∷ states (firstLineOf (bytes orListing)) (2 ∷ 1 ∷ 0 ∷ 0 ∷ 0 ∷ 3 ∷ 4 ∷ [])
+    ∷ states (countsOf (bytes orListing)) (3 ∷ 4 ∷ [])
+    ∷ states (tableOf 2 (bytes orListing)) orTable
     -- one product of four inputs, with a number of two digits
     ∷ states (listingOf One 4 1 0 (recorded (set (replicate 16 0) 15 1) [] 0 10 1 4 0)) (bytes fourListing)
-    ∷ states (firstLineOf fourListing) (4 ∷ 1 ∷ 0 ∷ 0 ∷ 10 ∷ 1 ∷ 4 ∷ [])
-    ∷ states (countsOf fourListing) (1 ∷ 4 ∷ [])
-    ∷ states (tableOf 4 fourListing) (set (replicate 16 0) 5 1)
+    ∷ states (firstLineOf (bytes fourListing)) (4 ∷ 1 ∷ 0 ∷ 0 ∷ 10 ∷ 1 ∷ 4 ∷ [])
+    ∷ states (countsOf (bytes fourListing)) (1 ∷ 4 ∷ [])
+    ∷ states (tableOf 4 (bytes fourListing)) (set (replicate 16 0) 5 1)
     ∷ []

@@ -4,7 +4,7 @@
 use mathlib.Core.Path.{_≡_, refl, sym, ap, ap₂, _∙_}
 use mathlib.Core.Bool.{Bool}
 use mathlib.Core.Logic.{inl, inr}
-use Prim.Native.Nat.{ℕ, zero, suc, _+_, _-_, _*_, _^_, _≤_, _<_}
+use Prim.Native.Nat.{ℕ, zero, suc, _+_, _-_, _^_, _<_}
 use native.Mathlib.Omega.{arith}
 use lib.Bits.{bitXor, xor-zero-l, xor-zero-r}
 use lib.Pow.{pow-pos, suc-ones}
@@ -19,7 +19,7 @@ use Rattle.expansions.specs.Costs.{counted}
 use Rattle.expansions.specs.Rules.{Rule, weight}
 use Rattle.expansions.specs.Answers.{memberCoefficient, withoutConstant}
 use Rattle.expansions.specs.Least.{LeastThen}
-use Rattle.expansions.proofs.Blocks.{Expands, member-expands, member-unique}
+use Rattle.expansions.proofs.Blocks.{member-unique}
 use Rattle.expansions.proofs.Costs.{charge, charge-ext, charge-apart}
 use Rattle.expansions.proofs.Rules.{weight-product}
 

@@ -1,4 +1,3 @@
 pub mod Lanes
 pub mod Sizes
-pub mod Charges
 pub mod Terms

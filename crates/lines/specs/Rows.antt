@@ -1,4 +1,5 @@
--- What the lines after the first mean: a value for each point of a table text or each term of a listing, or the refusal that they meet.
+-- What the rows mean, the lines after the first of a table text and after the second of a listing: a value for each point or each term, or the refusal
+-- that they meet.
 -- Document 01, "Text in, listing out" and "Why a call declines"; document 02, W-201.
 use mathlib.Core.Bool.{cond, _&&_}
 use mathlib.Core.List.{List, [], _∷_}

@@ -1,4 +1,4 @@
-// Judging the lines after the first, one by one; the first bad line counts. For every text, grammar and values lent, `judge_rows` gives the
+// Judging the rows, the lines after the first of a table text and after the second of a listing, one by one; the first bad line counts. For every text, grammar and values lent, `judge_rows` gives the
 // answer and leaves the values that `laterLines` in specs/Rows.antt says.
 use crate::cursor::Cursor;
 use crate::rows::Grammar;
@@ -52,7 +52,7 @@ pub fn unfinished(line: &[u8]) -> usize
     if line.len() == 0 { 6 } else { 1 }
 }
 
-// Judges the line at the cursor, one after the first, and puts its value among the values.
+// Judges the line at the cursor, a row or the last, and puts its value among the values.
 fn judge_row(
     text: &[u8],
     cursor: Cursor,

@@ -1,4 +1,4 @@
-// What a line after the first says. A table text has a line for each point that is not zero, and a listing one for each product: both are a
+// What a line says that is a row or the last. A table text has a line for each point that is not zero, and a listing one for each product: both are a
 // row, which puts a value at a place. A line comes without its byte 10.
 use crate::fields::field;
 use crate::fields::headed;
@@ -25,7 +25,7 @@ pub struct Grammar {
     pub m: usize,
 }
 
-// What a line after the first says. A table's row is at its point, with the outputs as value; a listing's is at its term, with 256 times the
+// What such a line says. A table's row is at its point, with the outputs as value; a listing's is at its term, with 256 times the
 // complemented inputs and the outputs as value.
 pub enum RowLine {
     Row { at: usize, value: usize },
@@ -70,7 +70,7 @@ fn term_row(n: usize, m: usize, line: &[u8]) -> RowLine
     }
 }
 
-// A line after the first: a row, or `end`.
+// A row, or `end`.
 pub fn row_line(grammar: Grammar, line: &[u8]) -> RowLine
     requires { ⌜ (grammar .n ≤ 8) × (grammar .m ≤ 8) ⌝ }
     ensures { λ r. ⌜ r ≡ rowLine grammar (now (line .entry)) ⌝ }

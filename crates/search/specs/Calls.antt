@@ -30,8 +30,8 @@ minimised zero e = Found (e .mixed) (e .fixed) (e .products) (e .literals) (e .i
 minimised (suc x) e = Refused (suc x) 0
 
 -- "The binary minimising call takes n, m, k and a table. It fills 2^n coefficient bytes and 2^(n−k) block bytes, and returns M, i, products
--- and literals." Document 02, W-203: "the binary call keeps to family one"; W-205: it returns the inversion mask too. The two buffers hold c and b when it is called, and c′ and b′ when it
--- returns.
+-- and literals." Document 02, W-203: "the binary call keeps to family one"; W-205: it returns the inversion mask too. The two buffers hold c and b when
+-- it is called, and c′ and b′ when it returns.
 pub record Minimise (n m k : ℕ) (table c c′ b b′ : List ℕ) (r : Minimised) : Type 0 where
   pub answer : r ≡ minimised (minimiseRefusal n m k table (length c) (length b)) (answerExpansion One n k (at table))
   pub coefficients : c′ ≡ unlessRefused (minimiseRefusal n m k table (length c) (length b)) (tabulate (2 ^ n) (answerCoefficient One n k (at table))) c

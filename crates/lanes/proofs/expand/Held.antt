@@ -1,32 +1,25 @@
--- Where `lanes` holds the block functions of M and i, the charges that the code computes from them are those of the blocks (`held-charge`).
--- So are the first least polarity of each block (`held-polarity`) and the charge of the pair (`held-pair`), which fits u32 (`pairCharge-lt`).
-use mathlib.Core.Path.{_≡_, sym, ap, ap₂, _∙_}
+-- Where `lanes` holds the block functions of M and i, its bytes are the outputs of the blocks' functions (`held-plane`), and the coefficients that the
+-- code reads from them are the blocks' (`held-coefficient`).
+use mathlib.Core.Path.{_≡_, ap, ap₂, _∙_}
 use mathlib.Core.List.{List}
 use Prim.Native.Nat.{ℕ, _+_, _-_, _*_, _/_, _%_, _^_, _<_}
 use native.Mathlib.Omega.{arith}
 use lib.Arith.{digits-div, digits-mod}
-use lib.Bits.{bitOr}
-use lib.Count.{onesIn, ones}
-use lib.Pow.{pow-pos}
+use lib.Count.{onesIn}
 use Rattle.numbers.specs.Bits.{bit}
 use Rattle.numbers.specs.Bytes.{at}
 use Rattle.numbers.proofs.Bytes.{at-tabulate}
 use Rattle.numbers.proofs.Pack.{pack-ext}
-use Rattle.numbers.proofs.Sums.{fold-ext}
 use Rattle.algebra.specs.Coefficients.{coefficient}
-use Rattle.expansions.specs.Answers.{blockFunction, blockCharge, leastPolarity, pairCharge}
+use Rattle.expansions.specs.Answers.{blockFunction}
 use Rattle.expansions.specs.BlockTable.{entry}
-use Rattle.expansions.specs.Rules.{ruleOf}
 use Rattle.expansions.specs.Split.{gather, outside, join}
-use Rattle.expansions.specs.inner.Charges.{usedCharge, chargedTerms, constantIn}
 use Rattle.expansions.specs.inner.Planes.{plane}
-use Rattle.expansions.proofs.BlockTable.{used, plane-coefficient, entry-outputs, blockCharge-byte, pairCharge-small}
+use Rattle.expansions.proofs.BlockTable.{plane-coefficient, entry-outputs}
 use Rattle.expansions.proofs.Blocks.{blockFunction-lt}
-use Rattle.expansions.proofs.Minimal.{leastPolarity-ext, pairCharge-ext}
 use Rattle.expansions.proofs.Split.{ones-others, gather-lt}
 use Rattle.lanes.specs.inner.Lanes.{placesByte, lanesUnder, blockLanes}
 use Rattle.lanes.specs.inner.Sizes.{Limits, MixedSet}
-use Rattle.lanes.specs.inner.Charges.{usedAt, chargeFrom}
 use Rattle.lanes.specs.inner.Terms.{coefficientIn}
 use Rattle.lanes.specs.declared.sizes.Sizes.{Sizes}
 
@@ -41,7 +34,7 @@ lanes-at r w f o q ho hq =
 pub fixed-lt : (n k M i : ℕ) → onesIn n M ≡ k → gather n (outside n M) i < 2 ^ (n - k)
 fixed-lt n k M i e = rw (← (ones-others n k M e)) (gather-lt n (outside n M) i)
 
--- ---- the charges of a pair, from its block functions
+-- ---- the block functions of a pair
 
 module _ (s : Sizes) (M i : ℕ) (f : ℕ → ℕ) (lanes : List ℕ) (limits : Limits s) (outputs : (p : ℕ) → p < 2 ^ s .n → f p < 2 ^ 8)
     (set : MixedSet s M) (held : lanes ≡ blockLanes (s .n) (s .k) M (gather (s .n) (outside (s .n) M) i) f) where
@@ -52,10 +45,6 @@ module _ (s : Sizes) (M i : ℕ) (f : ℕ → ℕ) (lanes : List ℕ) (limits : 
       ∙ lanes-at (s .n - s .k) (gather (s .n) (outside (s .n) M) i) (placesByte (s .n) (s .k) M f) o j ho hj
       ∙ plane-coefficient (s .k) (s .n - s .k) (gather (s .n) (outside (s .n) M) i) (λ q p. f (join (s .n) M q p)) o j (fixed-lt (s .n) (s .k) M i (set .size))
 
-  held-used : (j φ : ℕ) → j < 2 ^ (s .n - s .k) → usedAt (at lanes) j φ ≡ used 8 (s .k) φ (blockFunction (s .n) (s .k) f M i j)
-  unfolding usedAt used
-  held-used j φ h = fold-ext bitOr 8 _ _ (λ o l. ap (λ (g : ℕ). entry g φ) (held-plane o j l h))
-
   pub held-coefficient : (j r φ : ℕ) → j < 2 ^ (s .n - s .k) → r < 2 ^ s .k → φ < 2 ^ s .k
       → coefficientIn (at lanes) j r φ ≡ coefficient (s .k) φ (blockFunction (s .n) (s .k) f M i j) r
   unfolding coefficientIn
@@ -63,19 +52,3 @@ module _ (s : Sizes) (M i : ℕ) (f : ℕ → ℕ) (lanes : List ℕ) (limits : 
       pack-ext 8 _ _ (λ o l. ap (λ (g : ℕ). bit r (entry g φ)) (held-plane o j l hj))
       ∙ entry-outputs 8 (s .k) φ (blockFunction (s .n) (s .k) f M i j) (limits .mixed) hφ
       (λ p l. blockFunction-lt 8 (s .n) (s .k) M i f outputs (set .size) j p) r hr
-
-  pub held-charge : (j φ : ℕ) → j < 2 ^ (s .n - s .k) → φ < 2 ^ s .k → chargeFrom (s .family) (at lanes) j φ ≡ blockCharge (ruleOf (s .family)) (s .n) (s .k) f M i j φ
-  held-charge j φ hj hφ =
-      ap₂ (λ (u v : ℕ). usedCharge (ruleOf (s .family)) (ones j) (chargedTerms j u) * 256 + constantIn j v) (held-used j φ hj) (held-coefficient j 0 φ hj (pow-pos (s .k)) hφ)
-      ∙ sym (blockCharge-byte (ruleOf (s .family)) 8 (s .n) (s .k) f M i j φ (limits .mixed) hφ (set .size) outputs)
-
-  pub held-polarity : (j : ℕ) → j < 2 ^ (s .n - s .k) → leastPolarity (s .k) (chargeFrom (s .family) (at lanes) j) ≡ leastPolarity (s .k) (blockCharge (ruleOf (s .family)) (s .n) (s .k) f M i j)
-  held-polarity j h = leastPolarity-ext (s .k) _ (blockCharge (ruleOf (s .family)) (s .n) (s .k) f M i j) (λ φ l. held-charge j φ h l)
-
-  pub held-pair : pairCharge (s .n) (s .k) (chargeFrom (s .family) (at lanes)) ≡ pairCharge (s .n) (s .k) (blockCharge (ruleOf (s .family)) (s .n) (s .k) f M i)
-  held-pair = pairCharge-ext (s .n) (s .k) _ (blockCharge (ruleOf (s .family)) (s .n) (s .k) f M i) held-charge
-
--- a pair costs less than the charge that stands for no pair, 2 ^ 32 - 1
-pub pairCharge-lt : (s : Sizes) (f : ℕ → ℕ) (M i : ℕ) → Limits s → MixedSet s M → ((p : ℕ) → p < 2 ^ s .n → f p < 2 ^ 8)
-    → pairCharge (s .n) (s .k) (blockCharge (ruleOf (s .family)) (s .n) (s .k) f M i) < 2 ^ 31
-pairCharge-lt s f M i limits set outputs = pairCharge-small (s .family) (s .n) (s .k) f M i (limits .inputs) (limits .within) (set .size) outputs

@@ -38,8 +38,8 @@ module _ (n m k : ℕ) (table c b : List ℕ) (a : Accepted n m k table (length 
   outputs : (p : ℕ) → p < 2 ^ n → at table p < 2 ^ m
   outputs p l = below-at (2 ^ m) table (pow-pos m) (a .clean) p
 
-  filled-minimal : Minimal One n k (at table) (answerExpansion One n k (at table) .inverted) (answerExpansion One n k (at table) .mixed) (answerExpansion One n k (at table) .fixed) (at filledBlocks) (at filledCoefficients)
-      (answerExpansion One n k (at table) .products) (answerExpansion One n k (at table) .literals)
+  filled-minimal : let e = answerExpansion One n k (at table) in
+      Minimal One n k (at table) (e .inverted) (e .mixed) (e .fixed) (at filledBlocks) (at filledCoefficients) (e .products) (e .literals)
   unfolding answerExpansion
   filled-minimal =
       rw (at-coefficients One n k (at table) (2 ^ n) (omega arith), at-blocks One n k (at table) (2 ^ (n - k)) (omega arith))

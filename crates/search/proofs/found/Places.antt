@@ -21,7 +21,8 @@ use Rattle.lanes.specs.declared.sizes.Sizes.{Sizes}
 use Rattle.numbers.proofs.Tables.{at-whole}
 use Rattle.expansions.proofs.Blocks.{block-lt, place-lt}
 use Rattle.expansions.proofs.Answers.{only-ext, answer-member, answer-polarity-lt, answer-polarity-zero}
-use Rattle.lanes.proofs.expand.Held.{held-coefficient, held-polarity}
+use Rattle.lanes.proofs.expand.Held.{held-coefficient}
+use Rattle.charges.proofs.Held.{held-polarity}
 
 module _ (s : Sizes) (f : ℕ → ℕ) (lanes : List ℕ) (limits : Limits s) (outputs : (p : ℕ) → p < 2 ^ s .n → f p < 2 ^ 8)
     (held : lanes ≡ blockLanes (s .n) (s .k) (answerMixed (s .family) (s .n) (s .k) f)

@@ -12,10 +12,10 @@ use Rattle.expansions.specs.Answers.{leastPolarity, pairCharge}
 use Rattle.expansions.proofs.Costs.{sum-le}
 use Rattle.expansions.proofs.Minimal.{polarity-first}
 use Rattle.lanes.specs.inner.Sizes.{Limits}
-use Rattle.lanes.specs.inner.Charges.{IsCheapest, chargeFrom}
+use Rattle.charges.specs.inner.Charges.{IsCheapest, chargeFrom}
 use Rattle.lanes.specs.declared.sizes.Sizes.{Sizes}
-use Rattle.lanes.specs.declared.charges.Cheapest.{Cheapest}
-use Rattle.lanes.proofs.charges.Used.{mostCharge, chargeFrom-le}
+use Rattle.charges.specs.declared.cheapest.Cheapest.{Cheapest}
+use Rattle.charges.proofs.cheapest.Used.{mostCharge, chargeFrom-le}
 
 -- what block j costs under its first least polarity
 abbrev leastFrom : Sizes → (ℕ → ℕ) → ℕ → ℕ

@@ -10,11 +10,11 @@ use Rattle.expansions.specs.Rules.{ruleOf}
 use Rattle.expansions.specs.Answers.{pairCharge, blockCharge}
 use Rattle.expansions.specs.Split.{gather, spread, outside}
 use Rattle.expansions.proofs.Split.{gather-zero, gather-spread, ones-others}
-use Rattle.lanes.proofs.expand.Held.{held-pair, pairCharge-lt}
+use Rattle.charges.proofs.Held.{held-pair, pairCharge-lt}
 use Rattle.search.proofs.pairs.Leading.{Tried, tried-none, tried-next, tried-all}
 use Rattle.lanes.specs.inner.Lanes.{lanesUnder, blockLanes, placesByte}
 use Rattle.lanes.specs.inner.Sizes.{Limits, MixedSet}
-use Rattle.lanes.specs.inner.Charges.{chargeFrom}
+use Rattle.charges.specs.inner.Charges.{chargeFrom}
 use Rattle.search.specs.inner.Search.{Given, ledBy, Leads}
 use Rattle.lanes.specs.declared.sizes.Sizes.{Sizes}
 use Rattle.search.specs.declared.pairs.Leader.{Leader}

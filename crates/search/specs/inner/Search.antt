@@ -14,7 +14,7 @@ use Rattle.expansions.specs.Split.{spread, outside}
 use Rattle.expansions.specs.declared.families.Family.{Family}
 use Rattle.expansions.specs.Rules.{ruleOf}
 use Rattle.expansions.specs.Answers.{blockCharge, leastPolarity, pairCharge, validPair}
-use Rattle.lanes.specs.inner.Charges.{chargeFrom}
+use Rattle.charges.specs.inner.Charges.{chargeFrom}
 use Rattle.search.specs.declared.pairs.Leader.{Leader}
 
 -- a table of n inputs

@@ -8,7 +8,7 @@ use Rattle.numbers.proofs.Shifts.{one-shifted}
 use Rattle.search.specs.inner.Search.{polarityAt}
 use Rattle.expansions.specs.Answers.{leastPolarity}
 use Rattle.expansions.proofs.Answers.{only-below, only-above}
-use Rattle.lanes.specs.inner.Charges.{chargeFrom}
+use Rattle.charges.specs.inner.Charges.{chargeFrom}
 use native.Mathlib.Omega.{arith}
 use Rattle.search.proofs.found.polarity_at.Statement.{statement}
 use Rattle.search.proofs.found.polarity_at.Tie as tie

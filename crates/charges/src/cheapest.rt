@@ -1,0 +1,201 @@
+// What a block costs, by the rule of a family. The eight polarities of a block are compared side by side in one word, term by term, by small sums that
+// order them as every family's charge does. Block 0 leaves out the constant, whose coefficient is the inversion mask: where the sums are equal, the
+// masks decide. The main property: `cheapest_first`, for block 0, and `cheapest_other` hand up the first least polarity of a block and its charge.
+ghost use mathlib.Core.Path.{_≡_};
+ghost use Prim.Native.Nat.{_+_, _*_, _/_, _≤_, _<_};
+ghost use lib.Count.{ones};
+ghost use lib.ListN.{length};
+ghost use Rattle.numbers.specs.Bytes.{at};
+ghost use Rattle.numbers.specs.Words.{word, byte};
+ghost use Rattle.expansions.specs.BlockTable.{blockRows};
+ghost use Rattle.expansions.specs.Rules.{ruleOf};
+ghost use Rattle.expansions.specs.inner.Charges.{smallSum, sumCharge};
+ghost use Rattle.charges.specs.inner.Charges.{usedAt, chargeFrom, IsLeastSum, IsCheapest};
+ghost use Rattle.lanes.specs.inner.Sizes.{Limits};
+ghost use Rattle.lanes.specs.inner.Terms.{coefficientIn};
+use expansions::families::Family;
+use expansions::families::weights_of;
+use lanes::sizes::Sizes;
+
+// The literal count of each of the eight terms.
+const LITERALS: [u8; 8] = [0, 1, 1, 2, 1, 2, 2, 3];
+
+// The least of the small sums of a block, in block 0 each with its mask in the byte below it, and the first polarity that has it.
+pub struct LeastSum {
+    pub sum: u32,
+    pub polarity: u8,
+}
+
+// The first least polarity of a block, and what the block costs under it.
+pub struct Cheapest {
+    pub charge: u32,
+    pub polarity: u8,
+}
+
+// A byte as a word.
+fn wide(x: u8) -> u64
+    ensures { λ r. ⌜ (r ≡ x) × (r < 256) ⌝ }
+{
+    x as u64
+}
+
+// The terms that some output has in block j, as the bits of a byte for each of the eight polarities, from the block functions.
+fn used_terms(rows: &[u64; 256], lanes: &[u8], j: usize) -> u64
+    requires { ⌜ (now rows ≡ blockRows) × (j < 256) × (j * 8 + 8 ≤ length (now lanes)) ⌝ }
+    ensures { λ u. ⌜ u ≡ word 8 (usedAt (at (now (lanes .entry))) j) ⌝ }
+{
+    let mut used: u64 = 0;
+    let mut o: usize = 0;
+    while o < 8 {
+        used = used | rows[lanes[j * 8 + o] as usize];
+        o += 1;
+    }
+    used
+}
+
+// The small sum of each of eight bytes of terms, as the bytes of a word: the term's bit in each of the eight, times its weight.
+fn small_sums(used: u64) -> u64
+    ensures { λ r. ⌜ r ≡ word 8 (λ φ. smallSum (byte φ used)) ⌝ }
+{
+    let literals = LITERALS;
+    let mut sums: u64 = 0;
+    let mut t: usize = 0;
+    while t < 8 {
+        sums = sums + ((used >> t) & 0x0101010101010101) * (16 + wide(literals[t]));
+        t += 1;
+    }
+    sums
+}
+
+// The coefficient of the constant, all outputs together, for each of the eight polarities of block 0, as the bytes of a word.
+fn constants(rows: &[u64; 256], lanes: &[u8]) -> u64
+    requires { ⌜ (now rows ≡ blockRows) × (8 ≤ length (now lanes)) ⌝ }
+    ensures { λ r. ⌜ r ≡ word 8 (coefficientIn (at (now (lanes .entry))) 0 0) ⌝ }
+{
+    let mut all: u64 = 0;
+    let mut output: usize = 0;
+    while output < 8 {
+        let first = rows[lanes[output] as usize] & 0x0101010101010101;
+        all += first << output;
+        output += 1;
+    }
+    all
+}
+
+// Eight bytes of terms, each without term 0.
+fn without_constants(used: u64) -> u64
+    ensures { λ r. ⌜ r ≡ word 8 (λ φ. byte φ used / 2 * 2) ⌝ }
+{
+    used - (used & 0x0101010101010101)
+}
+
+// The least of the first 2^k bytes of the word, and the first that has it.
+fn least_sum(k: usize, sums: u64) -> LeastSum
+    requires { ⌜ k ≤ 3 ⌝ }
+    ensures { λ r. ⌜ IsLeastSum k (λ φ. byte φ sums) r ⌝ }
+{
+    let count: usize = 1 << k;
+    let mut least = LeastSum {
+        sum: (sums & 255) as u32,
+        polarity: 0,
+    };
+    let mut rest = sums >> 8;
+    let mut left: usize = count - 1;
+    while 0 < left {
+        let sum = (rest & 255) as u32;
+        if sum < least.sum {
+            least = LeastSum {
+                sum,
+                polarity: ((count - left) & 255) as u8,
+            };
+        }
+        rest = rest >> 8;
+        left -= 1;
+    }
+    least
+}
+
+// The lowest bytes of two words as one number, that of `high` above that of `low`.
+fn joined(high: u64, low: u64) -> u32
+    ensures { λ r. ⌜ r ≡ byte 0 high * 256 + byte 0 low ⌝ }
+{
+    ((high & 255) * 256 + (low & 255)) as u32
+}
+
+// The least of the first 2^k bytes of the sums, each with its mask in the byte below it, and the first that has it.
+fn least_masked(k: usize, sums: u64, masks: u64) -> LeastSum
+    requires { ⌜ k ≤ 3 ⌝ }
+    ensures { λ r. ⌜ IsLeastSum k (λ φ. byte φ sums * 256 + byte φ masks) r ⌝ }
+{
+    let count: usize = 1 << k;
+    let mut least = LeastSum {
+        sum: joined(sums, masks),
+        polarity: 0,
+    };
+    let mut rest = sums >> 8;
+    let mut rest_masks = masks >> 8;
+    let mut left: usize = count - 1;
+    while 0 < left {
+        let masked = joined(rest, rest_masks);
+        if masked < least.sum {
+            least = LeastSum {
+                sum: masked,
+                polarity: ((count - left) & 255) as u8,
+            };
+        }
+        rest = rest >> 8;
+        rest_masks = rest_masks >> 8;
+        left -= 1;
+    }
+    least
+}
+
+// The literals that each term of block j has outside the mixed set, counted three inputs at a time.
+fn literals_outside(j: usize) -> u32
+    requires { ⌜ j < 256 ⌝ }
+    ensures { λ r. ⌜ r ≡ ones j ⌝ }
+{
+    let literals = LITERALS;
+    literals[j & 7] as u32 + literals[(j >> 3) & 7] as u32 + literals[(j >> 6) & 7] as u32
+}
+
+// What a block costs by the family's rule, where its small sum is `sum` and each of its terms has `more` literals outside the mixed set: each product
+// with these literals, and the literals in the block.
+fn sum_charge(family: Family, more: u32, sum: u32) -> u32
+    requires { ⌜ (more ≤ 8) × (sum < 256) ⌝ }
+    ensures { λ r. ⌜ r ≡ sumCharge (ruleOf family) more sum ⌝ }
+{
+    let weights = weights_of(family);
+    (sum >> 4) * (weights.product + more * weights.literal) + (sum & 15) * weights.literal
+}
+
+// The first least of the 2^k polarities of block 0, from the block functions, and what the block costs under it. Block 0 has the constant, whose
+// coefficient costs nothing but its place in the order of masks.
+pub fn cheapest_first(rows: &[u64; 256], sizes: Sizes, lanes: &[u8]) -> Cheapest
+    requires { ⌜ (now rows ≡ blockRows) × (8 ≤ length (now lanes)) ⌝ }
+    requires { ⌜ Limits sizes ⌝ }
+    ensures { λ c. ⌜ IsCheapest (sizes .k) (chargeFrom (sizes .family) (at (now (lanes .entry))) 0) c ⌝ }
+{
+    let used = without_constants(used_terms(rows, lanes, 0));
+    let least = least_masked(sizes.k, small_sums(used), constants(rows, lanes));
+    let family = sizes.family;
+    Cheapest {
+        charge: sum_charge(family, 0, least.sum >> 8) * 256 + (least.sum & 255),
+        polarity: least.polarity,
+    }
+}
+
+// The first least of the 2^k polarities of block j, which is not block 0, from the block functions, and what the block costs under it.
+pub fn cheapest_other(rows: &[u64; 256], sizes: Sizes, lanes: &[u8], j: usize) -> Cheapest
+    requires { ⌜ (now rows ≡ blockRows) × (j < 256) × (j * 8 + 8 ≤ length (now lanes)) ⌝ }
+    requires { ⌜ Limits sizes × (0 < j) ⌝ }
+    ensures { λ c. ⌜ IsCheapest (sizes .k) (chargeFrom (sizes .family) (at (now (lanes .entry))) j) c ⌝ }
+{
+    let used = used_terms(rows, lanes, j);
+    let least = least_sum(sizes.k, small_sums(used));
+    let family = sizes.family;
+    Cheapest {
+        charge: sum_charge(family, literals_outside(j), least.sum) * 256,
+        polarity: least.polarity,
+    }
+}
