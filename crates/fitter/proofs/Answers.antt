@@ -32,7 +32,7 @@ use Rattle.fitter.specs.declared.check.Checked.{Checked}
 use Rattle.fitter.specs.declared.check.Checked.the-variants.{Same, Differs, NotOfClass, Refused}
 use Rattle.fitter.specs.Differences.{invertedValue, firstDifference}
 use Rattle.fitter.specs.Check.{compared, judged, judgedKind, judgedDesign, checked, PrintsTable, Answers, KroneckerAnswers, Check}
-use Rattle.fitter.proofs.Unlike.{unlike-refused}
+use Rattle.fitter.proofs.Unlike.{unlike-refused, second-line-refused}
 use Rattle.fitter.proofs.Outcomes.{not-to, not-from, same-to, same-from, differs-to, differs-from}
 
 -- ---- the four answers differ
@@ -158,6 +158,7 @@ check-words text s r e =
           let sized = block-sized (blockDesign z) (z .k) refl (reading-accepted text (blockDesign z) table g .sized) in
           answers-words z table s sized r (e ∙ ap (λ (x : tables.Reading). checked x s) g);
       unlike = λ z table g l none. e ∙ unlike-refused text s z table g l none;
+      second = λ z table g l same none. e ∙ second-line-refused text s z table g l same none;
       kronecker = λ d table g k.
           kronecker-words s r (e ∙ ap (λ (x : tables.Reading). checked x s) g ∙ ap (λ (x : Kind). judgedKind (d .family) (d .n) (d .m) x table s) k);
     }

@@ -10,7 +10,8 @@ use Rattle.table_texts.proofs.Design.{block-sized}
 use Rattle.table_texts.proofs.read.Accepted.{reading-accepted}
 use Rattle.listing_texts.specs.Form.{FormListing}
 use Rattle.listing_texts.proofs.Unlike.{unlike-read}
-use Rattle.listing_texts.proofs.SecondLine.{NoInv, second-refused}
+use Rattle.listing_texts.specs.Inv.{NoInv}
+use Rattle.listing_texts.proofs.SecondLine.{second-refused}
 use Rattle.fitter.specs.declared.check.Checked.the-variants.{Refused}
 use Rattle.fitter.specs.Check.{judged, judgedDesign, checked}
 

@@ -21,6 +21,7 @@ use Rattle.table_texts.specs.declared.sizes.Design.{Design}
 use Rattle.table_texts.specs.Design.{blockDesign}
 use Rattle.table_texts.specs.Read as tables
 use Rattle.listing_texts.specs.Form.{FormListing}
+use Rattle.listing_texts.specs.Inv.{NoInv}
 use Rattle.listing_texts.specs.Listings.{termListing, Passes}
 use Rattle.listing_texts.specs.Rows.{coefficientIn, complementedIn}
 use Rattle.listing_texts.specs.Read.{ListingReading, shown, refused, listingReading, besideKronecker}
@@ -110,4 +111,8 @@ pub record Check (text s : List ℕ) (r : Checked) : Type 0 where
   -- whatever the later lines are
   pub unlike : (z : Sizes) (table : List ℕ) → tables.reading text ≡ tables.given (blockDesign z) table → (l : FormListing s) → (l .form .sizes ≡ z → ⊥)
       → r ≡ Refused 12 1
+  -- W-205: "a second line, `inv` and m characters"; W-201: "A broken listing line .. is 11 with its line in the listing": where the first line passes and
+  -- the second is broken or is not there, whatever the later lines are
+  pub second : (z : Sizes) (table : List ℕ) → tables.reading text ≡ tables.given (blockDesign z) table → (l : FormListing s) → l .form .sizes ≡ z
+      → NoInv (z .m) (l .rest) → r ≡ Refused 11 2
   pub kronecker : (d : Design) (table : List ℕ) → tables.reading text ≡ tables.given d table → d .kind ≡ Kronecker → KroneckerAnswers s r

@@ -17,17 +17,13 @@ use Rattle.lines.specs.declared.values.Number.the-variants.{Is, Wrong}
 use Rattle.table_texts.specs.declared.sizes.Sizes.{Sizes}
 use Rattle.listing_texts.specs.declared.form.Form.{Form}
 use Rattle.listing_texts.specs.Form.{formNumbers, FormListing}
-use Rattle.listing_texts.specs.Inv.{invSaid}
+use Rattle.listing_texts.specs.Inv.{invSaid, NoInv}
 use Rattle.listing_texts.specs.Read.{refused, alike, allLines, listingReading}
 use Rattle.listing_texts.specs.inner.Judging.{secondAt}
 use Rattle.listing_texts.proofs.Exactness.{alike-self}
 use Rattle.listing_texts.proofs.FormRead.{form-said}
 use Rattle.listing_texts.proofs.InvRead.{inv-read}
 use Rattle.listing_texts.proofs.Opened.{second-split, split-joined, second-unfinished}
-
--- the lines do not begin with "`inv` and m characters"
-abbrev pub NoInv : ℕ → List ℕ → Type 0
-NoInv m s = (v : ℕ) (rest : List ℕ) → v < 2 ^ m → s ≡ invLine m v ++ rest → ⊥
 
 no-inv : (z : Sizes) (f : Form) (s : List ℕ) → NoInv (z .m) s → secondAt z f s 0 ≡ refused 11 2
 unfolding invLine
