@@ -37,7 +37,7 @@ use Rattle.listings.specs.Listing.{tabbed, line, descending, digitCount, decima
 use Rattle.listings.proofs.Words.{same-equal}
 use Rattle.listings.specs.Meaning.{allows, cubeTrue, literalsIn, outputsSaid, finished, linesOf, ofTerm, overLines, overTerms}
 use Rattle.listings.specs.Meaning.{ofInv, listingInverted, listingValue, listingProducts, listingLiterals, numberSaid, firstNumbers}
-use Rattle.lines.specs.Fields.{digit, oneDigit, digitsFrom, wellFormed, number, bits, mask, outputs, headed, familyOf}
+use Rattle.fields.specs.Fields.{digit, oneDigit, digitsFrom, wellFormed, number, bits, mask, outputs, headed, familyOf}
 use Rattle.lines.specs.Rows.{onRow, rowLine, unfinished, ended, laterLines}
 use Rattle.listings.specs.Kronecker.{letterByte, letterBytes, literalByte, kroneckerCube, kroneckerLine, kroneckerListing}
 use Rattle.table_texts.specs.Design.{designRefusal}

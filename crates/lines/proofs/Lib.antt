@@ -1,9 +1,3 @@
-pub mod Numbers
-pub mod Digits
-pub mod Written
-pub mod FieldsRead
-pub mod Cubes
-pub mod Headed
 pub mod LineKinds
 pub mod RowLines
 pub mod Terms

@@ -15,23 +15,23 @@ use Rattle.listings.specs.Listing.{tabbed, decimal, cube, outputBytes}
 use Rattle.listings.proofs.Joined.{Plain, parts-fields}
 use Rattle.listings.proofs.Meaning.{plain-decimal, plain-outputs, plain-cube, plain-term}
 use Rattle.listings.proofs.Words.{same-equal}
-use Rattle.lines.specs.declared.values.Number.{Number}
-use Rattle.lines.specs.declared.values.Number.the-variants as numbers
-use Rattle.lines.specs.declared.values.Cube.{Cube}
-use Rattle.lines.specs.declared.values.Cube.the-variants as cubes
+use Rattle.fields.specs.declared.values.Number.{Number}
+use Rattle.fields.specs.declared.values.Number.the-variants as numbers
+use Rattle.fields.specs.declared.values.Cube.{Cube}
+use Rattle.fields.specs.declared.values.Cube.the-variants as cubes
 use Rattle.lines.specs.declared.rows.Grammar.{Grammar}
 use Rattle.lines.specs.declared.rows.Kind.{Kind}
 use Rattle.lines.specs.declared.rows.Kind.the-variants.{Table, Listing}
 use Rattle.lines.specs.declared.rows.RowLine.{RowLine}
 use Rattle.lines.specs.declared.rows.RowLine.the-variants.{Row, End, Wrong}
-use Rattle.lines.specs.Fields.{andThen, headed, number, outputs}
-use Rattle.lines.specs.Cubes.{cubeSaid}
+use Rattle.fields.specs.Fields.{andThen, headed, number, outputs}
+use Rattle.fields.specs.Cubes.{cubeSaid}
 use Rattle.lines.specs.Rows.{tableGrammar, listingGrammar, onRow, cubeThen, termRow, ofKind, rowLine}
-use Rattle.lines.proofs.Numbers.{outputs-lt}
-use Rattle.lines.proofs.Written.{number-decimal, outputs-written}
-use Rattle.lines.proofs.FieldsRead.{number-read, outputs-read}
-use Rattle.lines.proofs.Cubes.{cube-written, cube-said}
-use Rattle.lines.proofs.Headed.{two-fields}
+use Rattle.fields.proofs.Numbers.{outputs-lt}
+use Rattle.fields.proofs.Written.{number-decimal, outputs-written}
+use Rattle.fields.proofs.FieldsRead.{number-read, outputs-read}
+use Rattle.fields.proofs.Cubes.{cube-written, cube-said}
+use Rattle.fields.proofs.Headed.{two-fields}
 use Rattle.lines.proofs.LineKinds.{LineKind}
 
 -- ---- what a line is not

@@ -1,4 +1,2 @@
-pub mod Fields
-pub mod Cubes
 pub mod Rows
 pub mod inner

@@ -7,8 +7,8 @@ use Prim.Native.Nat.{ℕ, _+_, _*_, _^_}
 use lib.Dec.{leb, ltb}
 use lib.ListN.{set, replicate}
 use Rattle.listings.specs.Parts.{parts, bytes, same, field}
-use Rattle.lines.specs.declared.values.Cube.{Cube}
-use Rattle.lines.specs.declared.values.Cube.the-variants as cube
+use Rattle.fields.specs.declared.values.Cube.{Cube}
+use Rattle.fields.specs.declared.values.Cube.the-variants as cube
 use Rattle.lines.specs.declared.rows.Kind.{Kind}
 use Rattle.lines.specs.declared.rows.Kind.the-variants.{Table, Listing}
 use Rattle.lines.specs.declared.rows.Grammar.{Grammar}
@@ -16,8 +16,8 @@ use Rattle.lines.specs.declared.rows.RowLine.{RowLine}
 use Rattle.lines.specs.declared.rows.RowLine.the-variants.{Row, End, Wrong}
 use Rattle.lines.specs.declared.judge.RowsAnswer.{RowsAnswer}
 use Rattle.lines.specs.declared.judge.RowsAnswer.the-variants as answer
-use Rattle.lines.specs.Fields.{andThen, number, outputs, headed}
-use Rattle.lines.specs.Cubes.{cubeSaid}
+use Rattle.fields.specs.Fields.{andThen, number, outputs, headed}
+use Rattle.fields.specs.Cubes.{cubeSaid}
 
 -- ---- one line
 

@@ -1,13 +1,13 @@
 // What a line says that is a row or the last. A table text has a line for each point that is not zero, and a listing one for each product: both are a
 // row, which puts a value at a place. A line comes without its byte 10.
-use crate::fields::field;
-use crate::fields::headed;
-use crate::fields::same;
-use crate::values::Cube;
-use crate::values::Number;
-use crate::values::outputs;
-use crate::values::read_cube;
-use crate::values::read_number;
+use fields::values::Cube;
+use fields::values::Number;
+use fields::values::outputs;
+use fields::values::read_cube;
+use fields::values::read_number;
+use fields::words::field;
+use fields::words::headed;
+use fields::words::same;
 ghost use mathlib.Core.Path.{_≡_};
 ghost use Prim.Native.Nat.{_≤_};
 ghost use Rattle.lines.specs.Rows.{onRow, termRow, rowLine};

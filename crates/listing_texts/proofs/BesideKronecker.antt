@@ -18,7 +18,7 @@ use Rattle.listings.proofs.Joined.{parts-lines}
 use Rattle.listings.proofs.Lengths.{digitsOf-le, length-formWord, length-formLine}
 use Rattle.listings.proofs.Meaning.{plain-form, plain-numbers}
 use Rattle.listings.proofs.Parts.{separated, parts-joined}
-use Rattle.lines.specs.Fields.{headed, familyOf}
+use Rattle.fields.specs.Fields.{headed, familyOf}
 use Rattle.table_texts.specs.declared.sizes.Sizes.{Sizes}
 use Rattle.listing_texts.specs.declared.form.Form.{Form}
 use Rattle.listing_texts.specs.declared.form.FirstLine.{FirstLine}

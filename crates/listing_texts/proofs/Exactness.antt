@@ -21,10 +21,10 @@ use Rattle.listings.specs.Parts.{parts, bytes}
 use Rattle.listings.specs.Listing.{line, decimal, outputBytes, formWord, formLine, invLine, termLines, listingWith}
 use Rattle.listings.proofs.Joined.{parts-lines}
 use Rattle.listings.proofs.Meaning.{plain-form, plain-numbers, plain-outputs, plain-inv}
-use Rattle.lines.specs.declared.values.Number.{Number}
-use Rattle.lines.specs.declared.values.Number.the-variants as number
-use Rattle.lines.specs.declared.values.Number.the-variants.{Is}
-use Rattle.lines.specs.Fields.{andThen}
+use Rattle.fields.specs.declared.values.Number.{Number}
+use Rattle.fields.specs.declared.values.Number.the-variants as number
+use Rattle.fields.specs.declared.values.Number.the-variants.{Is}
+use Rattle.fields.specs.Fields.{andThen}
 use Rattle.lines.specs.Rows as lines
 use Rattle.lines.specs.Rows.{rowsFrom}
 use Rattle.lines.proofs.Terms.{TermRows, term-rows-read, term-rows-written}

@@ -12,14 +12,14 @@ use Rattle.listings.specs.Parts.{parts, bytes, same, field, fields}
 use Rattle.listings.specs.Listing.{tabbed, decimal, formWord}
 use Rattle.listings.proofs.Joined.{parts-fields}
 use Rattle.listings.proofs.Meaning.{plain-numbers, plain-form}
-use Rattle.lines.specs.declared.fields.FamilyRead.{FamilyRead}
-use Rattle.lines.specs.declared.fields.FamilyRead.the-variants as family
-use Rattle.lines.specs.declared.values.Number.{Number}
-use Rattle.lines.specs.declared.values.Number.the-variants as number
-use Rattle.lines.specs.Fields.{number, familyOf, familyThen}
-use Rattle.lines.proofs.Written.{number-decimal}
-use Rattle.lines.proofs.FieldsRead.{number-read}
-use Rattle.lines.proofs.Headed.{list-each, family-said, family-read}
+use Rattle.fields.specs.declared.words.FamilyRead.{FamilyRead}
+use Rattle.fields.specs.declared.words.FamilyRead.the-variants as family
+use Rattle.fields.specs.declared.values.Number.{Number}
+use Rattle.fields.specs.declared.values.Number.the-variants as number
+use Rattle.fields.specs.Fields.{number, familyOf, familyThen}
+use Rattle.fields.proofs.Written.{number-decimal}
+use Rattle.fields.proofs.FieldsRead.{number-read}
+use Rattle.fields.proofs.Headed.{list-each, family-said, family-read}
 use Rattle.listing_texts.specs.declared.form.Form.{Form}
 use Rattle.listing_texts.specs.declared.form.FirstLine.the-variants.{States, Wrong}
 use Rattle.listing_texts.specs.Form.{formOf, firstLine, formNumbers, Digits}

@@ -7,12 +7,12 @@ use Rattle.listings.specs.Parts.{bytes, same, field, fields}
 use Rattle.listings.specs.Listing.{tabbed, outputBytes}
 use Rattle.listings.proofs.Joined.{parts-fields}
 use Rattle.listings.proofs.Meaning.{plain-outputs, plain-inv}
-use Rattle.lines.specs.declared.values.Number.the-variants.{Is}
-use Rattle.lines.specs.Fields.{mask, headed}
-use Rattle.lines.proofs.Numbers.{under-test, mask-lt}
-use Rattle.lines.proofs.Written.{mask-written}
-use Rattle.lines.proofs.FieldsRead.{mask-read}
-use Rattle.lines.proofs.Headed.{headed-fields}
+use Rattle.fields.specs.declared.values.Number.the-variants.{Is}
+use Rattle.fields.specs.Fields.{mask, headed}
+use Rattle.fields.proofs.Numbers.{under-test, mask-lt}
+use Rattle.fields.proofs.Written.{mask-written}
+use Rattle.fields.proofs.FieldsRead.{mask-read}
+use Rattle.fields.proofs.Headed.{headed-fields}
 use Rattle.listing_texts.specs.Inv.{invSaid}
 
 pub inv-said : (m v : ℕ) → v < 2 ^ m → invSaid m (bytes "inv" ++ tabbed (outputBytes m v ∷ [])) ≡ Is v

@@ -6,7 +6,7 @@ use lib.ListN.{length, drop}
 use Rattle.listings.specs.Parts.{parts}
 use Rattle.listings.specs.Listing.{tabbed, line}
 use Rattle.listings.proofs.Parts.{separated, parts-joined, others-none, others-more}
-use Rattle.lines.specs.Fields.{andThen}
+use Rattle.fields.specs.Fields.{andThen}
 use Rattle.lines.specs.Rows.{rowsFrom}
 use Rattle.table_texts.specs.declared.sizes.Sizes.{Sizes}
 use Rattle.listing_texts.specs.declared.form.Form.{Form}

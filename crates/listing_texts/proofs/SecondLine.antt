@@ -12,8 +12,8 @@ use Rattle.listings.specs.Parts.{parts, bytes}
 use Rattle.listings.specs.Listing.{decimal, outputBytes, formWord, invLine}
 use Rattle.listings.proofs.Joined.{parts-lines}
 use Rattle.listings.proofs.Meaning.{plain-form, plain-numbers}
-use Rattle.lines.specs.declared.values.Number.{Number}
-use Rattle.lines.specs.declared.values.Number.the-variants.{Is, Wrong}
+use Rattle.fields.specs.declared.values.Number.{Number}
+use Rattle.fields.specs.declared.values.Number.the-variants.{Is, Wrong}
 use Rattle.table_texts.specs.declared.sizes.Sizes.{Sizes}
 use Rattle.listing_texts.specs.declared.form.Form.{Form}
 use Rattle.listing_texts.specs.Form.{formNumbers, FormListing}

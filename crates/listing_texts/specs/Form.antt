@@ -7,8 +7,8 @@ use Rattle.expansions.specs.declared.families.Family.{Family}
 use Rattle.expansions.specs.declared.families.Family.the-variants.{One, Two}
 use Rattle.listings.specs.Parts.{parts, bytes, field}
 use Rattle.listings.specs.Listing.{line, decimal, formWord}
-use Rattle.lines.specs.declared.values.Number.{Number}
-use Rattle.lines.specs.Fields.{andThen, number, familyOf, familyThen}
+use Rattle.fields.specs.declared.values.Number.{Number}
+use Rattle.fields.specs.Fields.{andThen, number, familyOf, familyThen}
 use Rattle.listing_texts.specs.declared.form.Form.{Form}
 use Rattle.listing_texts.specs.declared.form.FirstLine.{FirstLine}
 use Rattle.listing_texts.specs.declared.form.FirstLine.the-variants.{States, Wrong}

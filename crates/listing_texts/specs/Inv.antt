@@ -5,9 +5,9 @@ use mathlib.Core.Path.{_≡_}
 use Prim.Native.Nat.{ℕ, _^_, _<_}
 use Rattle.listings.specs.Parts.{bytes, field}
 use Rattle.listings.specs.Listing.{invLine}
-use Rattle.lines.specs.declared.values.Number.{Number}
-use Rattle.lines.specs.declared.values.Number.the-variants.{Wrong}
-use Rattle.lines.specs.Fields.{mask, headed}
+use Rattle.fields.specs.declared.values.Number.{Number}
+use Rattle.fields.specs.declared.values.Number.the-variants.{Wrong}
+use Rattle.fields.specs.Fields.{mask, headed}
 
 -- "`inv` and m characters": the inversion mask that a line says, of m outputs
 unfoldable pub invSaid : ℕ → List ℕ → Number

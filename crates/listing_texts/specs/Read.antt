@@ -11,7 +11,7 @@ use Rattle.expansions.specs.declared.families.Family.the-variants.{One, Two}
 use Rattle.expansions.specs.Costs.{products, literals}
 use Rattle.listings.specs.Parts.{parts}
 use Rattle.lines.specs.declared.rows.Grammar.{Grammar}
-use Rattle.lines.specs.Fields.{andThen}
+use Rattle.fields.specs.Fields.{andThen}
 use Rattle.lines.specs.Rows as lines
 use Rattle.table_texts.specs.declared.sizes.Sizes.{Sizes}
 use Rattle.listing_texts.specs.declared.form.Form.{Form}

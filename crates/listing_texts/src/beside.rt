@@ -1,7 +1,7 @@
 // A listing beside a `K` table. No listing passes there: a `form` or `form2` listing is refused by 12, and any other by 11, each with line 1.
 use crate::form::FirstLine;
 use crate::form::first_line;
-use lines::cursor::Cursor;
+use fields::cursor::Cursor;
 ghost use mathlib.Core.Path.{_≡_};
 ghost use Rattle.listing_texts.specs.Read.{besideKronecker};
 

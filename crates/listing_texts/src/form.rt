@@ -1,11 +1,11 @@
 // The first line of a listing: `form` or `form2`, n, m, k, M, i, products, literals. Whether its family and its numbers fit the table and the
 // lines is judged later, since a line that breaks the grammar is refused first.
 use expansions::families::Family;
-use lines::fields::FamilyRead;
-use lines::fields::family_of;
-use lines::fields::field;
-use lines::values::Number;
-use lines::values::read_number;
+use fields::values::Number;
+use fields::values::read_number;
+use fields::words::FamilyRead;
+use fields::words::family_of;
+use fields::words::field;
 use table_texts::sizes::Sizes;
 ghost use mathlib.Core.Path.{_≡_};
 ghost use Rattle.listing_texts.specs.Form.{formOf, firstLine};

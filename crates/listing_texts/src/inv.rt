@@ -1,8 +1,8 @@
 // The second line of a listing: `inv` and a character for each output, `1` where it is inverted. They may all be `0`.
-use lines::fields::field;
-use lines::fields::headed;
-use lines::values::Number;
-use lines::values::mask;
+use fields::values::Number;
+use fields::values::mask;
+use fields::words::field;
+use fields::words::headed;
 ghost use mathlib.Core.Path.{_≡_};
 ghost use Prim.Native.Nat.{_≤_};
 ghost use Rattle.listing_texts.specs.Inv.{invSaid};

@@ -18,8 +18,8 @@ use Rattle.algebra.specs.Terms.{holds, value}
 use Rattle.listings.specs.Listing.{line, cube, outputBytes, cubeLine, termLine, termLines, printedCubes}
 use Rattle.listings.specs.Parts.{bytes}
 use Rattle.listings.proofs.Cubes.{cube-masked}
-use Rattle.lines.specs.Cubes.{termShown, complementShown}
-use Rattle.lines.proofs.Cubes.{term-cube, complement-cube}
+use Rattle.fields.specs.Cubes.{termShown, complementShown}
+use Rattle.fields.proofs.Cubes.{term-cube, complement-cube}
 
 -- ---- one cube
 

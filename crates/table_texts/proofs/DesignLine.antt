@@ -18,14 +18,14 @@ use Rattle.listings.specs.Listing.{tabbed, decimal}
 use Rattle.listings.proofs.Joined.{Plain, AllPlain, parts-fields}
 use Rattle.listings.proofs.Meaning.{plain-decimal}
 use Rattle.listings.proofs.Words.{same-equal}
-use Rattle.lines.specs.declared.fields.FamilyRead.{FamilyRead}
-use Rattle.lines.specs.declared.fields.FamilyRead.the-variants as family
-use Rattle.lines.specs.declared.values.Number.{Number}
-use Rattle.lines.specs.declared.values.Number.the-variants.{Is, Wrong}
-use Rattle.lines.specs.Fields.{oneDigit, familyOf, familyThen}
-use Rattle.lines.proofs.Written.{decimal-one, oneDigit-decimal}
-use Rattle.lines.proofs.FieldsRead.{oneDigit-read}
-use Rattle.lines.proofs.Headed.{list-each, family-said, family-read}
+use Rattle.fields.specs.declared.words.FamilyRead.{FamilyRead}
+use Rattle.fields.specs.declared.words.FamilyRead.the-variants as family
+use Rattle.fields.specs.declared.values.Number.{Number}
+use Rattle.fields.specs.declared.values.Number.the-variants.{Is, Wrong}
+use Rattle.fields.specs.Fields.{oneDigit, familyOf, familyThen}
+use Rattle.fields.proofs.Written.{decimal-one, oneDigit-decimal}
+use Rattle.fields.proofs.FieldsRead.{oneDigit-read}
+use Rattle.fields.proofs.Headed.{list-each, family-said, family-read}
 use Rattle.table_texts.specs.declared.first.KindRead.{KindRead}
 use Rattle.table_texts.specs.declared.first.KindRead.the-variants as kind
 use Rattle.table_texts.specs.declared.first.FirstLine.the-variants as first

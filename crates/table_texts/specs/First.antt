@@ -7,8 +7,8 @@ use Rattle.expansions.specs.declared.families.Family.the-variants.{One, Two}
 use Rattle.expansions.specs.declared.kinds.Kind.{Kind}
 use Rattle.expansions.specs.declared.kinds.Kind.the-variants.{Block, Kronecker}
 use Rattle.listings.specs.Parts.{bytes, same, field}
-use Rattle.lines.specs.declared.values.Number.{Number}
-use Rattle.lines.specs.Fields.{andThen, oneDigit, familyOf, familyThen}
+use Rattle.fields.specs.declared.values.Number.{Number}
+use Rattle.fields.specs.Fields.{andThen, oneDigit, familyOf, familyThen}
 use Rattle.table_texts.specs.declared.first.KindRead.{KindRead}
 use Rattle.table_texts.specs.declared.first.KindRead.the-variants as kind
 use Rattle.table_texts.specs.declared.first.FirstLine.{FirstLine}

@@ -3,12 +3,12 @@
 use crate::sizes::Design;
 use expansions::families::Family;
 use expansions::kinds::Kind;
-use lines::fields::FamilyRead;
-use lines::fields::family_of;
-use lines::fields::field;
-use lines::fields::same;
-use lines::values::Number;
-use lines::values::one_digit;
+use fields::values::Number;
+use fields::values::one_digit;
+use fields::words::FamilyRead;
+use fields::words::family_of;
+use fields::words::field;
+use fields::words::same;
 ghost use mathlib.Core.Path.{_≡_};
 ghost use Rattle.table_texts.specs.First.{kindOf, tableLine, firstLine};
 

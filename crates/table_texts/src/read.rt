@@ -5,7 +5,7 @@ use crate::first::first_line;
 use crate::sizes::Design;
 use crate::sizes::Sizes;
 use crate::sizes::judge_design;
-use lines::cursor::Cursor;
+use fields::cursor::Cursor;
 use lines::judge::PLACES;
 use lines::judge::RowsAnswer;
 use lines::judge::judge_rows;

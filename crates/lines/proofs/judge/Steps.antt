@@ -10,7 +10,7 @@ use lib.ListN.{length, getD, take, drop, set}
 use Rattle.listings.specs.Parts.{withByte, parts}
 use Rattle.listings.specs.inner.Stops.{stop}
 use Rattle.listings.proofs.Parts.{first-slice, others-last, others-next, parts-step, parts-end}
-use Rattle.lines.specs.declared.cursor.Cursor.{Cursor}
+use Rattle.fields.specs.declared.cursor.Cursor.{Cursor}
 use Rattle.lines.specs.declared.rows.Grammar.{Grammar}
 use Rattle.lines.specs.declared.rows.RowLine.the-variants.{Row, End, Wrong}
 use Rattle.lines.specs.Rows.{rows, refused, rowLine, unfinished, ended, judgedRow, laterLines}

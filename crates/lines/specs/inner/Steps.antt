@@ -5,7 +5,7 @@ use mathlib.Core.Path.{_≡_}
 use Prim.Native.Nat.{ℕ, _+_, _≤_, _<_}
 use lib.ListN.{length, drop}
 use Rattle.listings.specs.Parts.{parts}
-use Rattle.lines.specs.declared.cursor.Cursor.{Cursor}
+use Rattle.fields.specs.declared.cursor.Cursor.{Cursor}
 use Rattle.lines.specs.declared.rows.Grammar.{Grammar}
 use Rattle.lines.specs.declared.judge.Step.{Step}
 use Rattle.lines.specs.declared.judge.Step.the-variants as step

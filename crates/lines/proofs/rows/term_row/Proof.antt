@@ -6,8 +6,8 @@ use borrow.Author.Tests.{not-true, not-false}
 use Rattle.numbers.proofs.Shifts.{points-le}
 use Rattle.listings.specs.Parts.{bytes}
 use Rattle.lines.specs.Rows.{termRow}
-use Rattle.lines.proofs.Numbers.{outputs-lt}
-use Rattle.lines.proofs.Cubes.{cube-said}
+use Rattle.fields.proofs.Numbers.{outputs-lt}
+use Rattle.fields.proofs.Cubes.{cube-said}
 use Rattle.lines.proofs.rows.term_row.Statement.{statement}
 use Rattle.lines.proofs.rows.term_row.Tie as tie
 

@@ -1,0 +1,67 @@
+-- What the fields of a line say: words, digits, numbers, outputs and masks. Document 01, "Text in, listing out", and document 02, W-203 and W-205.
+use mathlib.Core.Bool.{Bool, cond, _&&_, _||_, not}
+use mathlib.Core.List.{List, [], _∷_}
+use Prim.Native.Nat.{ℕ, _+_, _-_, _*_}
+use lib.Dec.{leb, ltb, eqb}
+use lib.ListN.{length, getD}
+use Rattle.expansions.specs.declared.families.Family.{Family}
+use Rattle.expansions.specs.declared.families.Family.the-variants.{One, Two}
+use Rattle.fields.specs.declared.words.FamilyRead.{FamilyRead}
+use Rattle.fields.specs.declared.words.FamilyRead.the-variants as family
+use Rattle.fields.specs.declared.values.Number.{Number}
+use Rattle.fields.specs.declared.values.Number.the-variants.{Is, Wrong}
+use Rattle.listings.specs.Parts.{same, field, fields}
+
+-- what follows a number that is read, and what else is said where none is
+abbrev pub andThen : {A : Type 0} → Number → A → (ℕ → A) → A
+andThen (Is v) other f = f v
+andThen Wrong other f = other
+
+-- a line has so many fields, the first of them the given word: "Fields are parted by one tab (byte 9)."
+unfoldable pub headed : ℕ → List ℕ → List ℕ → Bool
+headed count word l = eqb (length (fields l)) count && same (field 0 l) word
+
+-- "A table that begins `table2`", "Its listing begins `form2`": the family that a first line with so many fields is for, by its first word; `one` and
+-- `two` are the words of the two families
+unfoldable pub familyOf : ℕ → List ℕ → List ℕ → List ℕ → FamilyRead
+familyOf count one two l = cond (headed count one l) (family.Is One) (cond (headed count two l) (family.Is Two) family.Wrong)
+
+-- what follows a family that is read, and what else is said where none is
+abbrev pub familyThen : {A : Type 0} → FamilyRead → A → (Family → A) → A
+familyThen (family.Is x) other f = f x
+familyThen family.Wrong other f = other
+
+-- a digit's value, below a base: the digits are the bytes from `0` (byte 48) on
+unfoldable pub digit : ℕ → ℕ → Number
+digit base b = cond (leb 48 b && ltb (b - 48) base) (Is (b - 48)) Wrong
+
+-- "Each is one digit"
+unfoldable pub oneDigit : List ℕ → Number
+oneDigit f = cond (eqb (length f) 1) (digit 10 (getD f 0 0)) Wrong
+
+-- the number that digits say in base ten, after digits that say v
+unfoldable pub digitsFrom : ℕ → List ℕ → Number
+digitsFrom v [] = Is v
+digitsFrom v (b ∷ f) = andThen (digit 10 b) Wrong (λ d. digitsFrom (v * 10 + d) f)
+
+-- of "one to three digits with no leading zero (but `0`)" and "one to four digits and no leading zero but `0`": the length and the leading byte
+unfoldable pub wellFormed : ℕ → List ℕ → Bool
+wellFormed most f = leb 1 (length f) && leb (length f) most && (eqb (length f) 1 || not (eqb (getD f 0 0) 48))
+
+-- "The point is one to three digits with no leading zero (but `0`)"; a listing's "numbers have one to four digits and no leading zero but `0`":
+-- `most` is three or four
+unfoldable pub number : ℕ → List ℕ → Number
+number most f = cond (wellFormed most f) (digitsFrom 0 f) Wrong
+
+-- the outputs that characters say, "leftmost output 0": the leftmost character is the lowest bit
+unfoldable pub bits : List ℕ → Number
+bits [] = Is 0
+bits (b ∷ f) = andThen (digit 2 b) Wrong (λ x. andThen (bits f) Wrong (λ v. Is (v * 2 + x)))
+
+-- document 02, W-205: "`inv` and m characters", of an "inversion mask (bit o for output o)": each `0` or `1`, and they may all be `0`
+unfoldable pub mask : ℕ → List ℕ → Number
+mask m f = cond (eqb (length f) m) (bits f) Wrong
+
+-- "Outputs are m characters, leftmost output 0, each `0` or `1`, not all `0`."
+unfoldable pub outputs : ℕ → List ℕ → Number
+outputs m f = andThen (mask m f) Wrong (λ v. cond (eqb v 0) Wrong (Is v))
