@@ -10,7 +10,7 @@ ghost use Rattle.numbers.specs.Words.{word, byte};
 ghost use Rattle.expansions.specs.BlockTable.{blockRows};
 ghost use Rattle.expansions.specs.Rules.{ruleOf};
 ghost use Rattle.expansions.specs.inner.Charges.{smallSum, sumCharge};
-ghost use Rattle.charges.specs.inner.Charges.{usedAt, chargeFrom, IsLeastSum, IsCheapest};
+ghost use Rattle.charges.specs.inner.Charges.{usedAt, chargeFrom, plainFrom, IsLeastSum, IsCheapest};
 ghost use Rattle.lanes.specs.inner.Sizes.{Limits};
 ghost use Rattle.lanes.specs.inner.Terms.{coefficientIn};
 use expansions::families::Family;
@@ -185,17 +185,18 @@ pub fn cheapest_first(rows: &[u64; 256], sizes: Sizes, lanes: &[u8]) -> Cheapest
     }
 }
 
-// The first least of the 2^k polarities of block j, which is not block 0, from the block functions, and what the block costs under it.
+// The first least of the 2^k polarities of block j, from the block functions, and what the block costs under it, all its terms charged. It is asked of
+// the blocks other than block 0, where a pair's charge has 256 times that.
 pub fn cheapest_other(rows: &[u64; 256], sizes: Sizes, lanes: &[u8], j: usize) -> Cheapest
     requires { ⌜ (now rows ≡ blockRows) × (j < 256) × (j * 8 + 8 ≤ length (now lanes)) ⌝ }
-    requires { ⌜ Limits sizes × (0 < j) ⌝ }
-    ensures { λ c. ⌜ IsCheapest (sizes .k) (chargeFrom (sizes .family) (at (now (lanes .entry))) j) c ⌝ }
+    requires { ⌜ Limits sizes ⌝ }
+    ensures { λ c. ⌜ IsCheapest (sizes .k) (plainFrom (sizes .family) (at (now (lanes .entry))) j) c ⌝ }
 {
     let used = used_terms(rows, lanes, j);
     let least = least_sum(sizes.k, small_sums(used));
     let family = sizes.family;
     Cheapest {
-        charge: sum_charge(family, literals_outside(j), least.sum) * 256,
+        charge: sum_charge(family, literals_outside(j), least.sum),
         polarity: least.polarity,
     }
 }

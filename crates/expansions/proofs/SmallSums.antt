@@ -125,6 +125,10 @@ module _ (R : Rule) (more : ℕ) where
 
 -- ---- the first least polarity
 
+-- 256 times each charge
+pub leastPolarity-scaled : (k : ℕ) (g : ℕ → ℕ) → leastPolarity k g ≡ leastPolarity k (λ φ. g φ * 256 + 0)
+leastPolarity-scaled k g = leastPolarity-alike k g (λ φ. g φ * 256 + 0) (λ φ ψ h l c. omega arith) (λ φ ψ h l c. omega arith)
+
 -- with a mask below each sum
 module _ (R : Rule) (outweighs : OutweighsFour R) (k more : ℕ) (sums used masks : ℕ → ℕ) (bytes : (φ : ℕ) → φ < 2 ^ k → used φ < 2 ^ 8)
     (e : (φ : ℕ) → φ < 2 ^ k → sums φ ≡ smallSum (used φ)) (small : (φ : ℕ) → φ < 2 ^ k → masks φ < 256) where
@@ -134,7 +138,7 @@ module _ (R : Rule) (outweighs : OutweighsFour R) (k more : ℕ) (sums used mask
   abbrev pub charged : ℕ → ℕ
   charged φ = usedCharge R more (used φ) * 256 + masks φ
 
-  stands-for : (φ : ℕ) → φ < 2 ^ k → sumCharge R more (sums φ) ≡ usedCharge R more (used φ)
+  pub stands-for : (φ : ℕ) → φ < 2 ^ k → sumCharge R more (sums φ) ≡ usedCharge R more (used φ)
   stands-for φ h = ap (sumCharge R more) (e φ h) ∙ sym (usedCharge-sum R more (used φ) (bytes φ h))
 
   same-charge : (φ ψ : ℕ) → φ < 2 ^ k → ψ < 2 ^ k → sums φ ≡ sums ψ → usedCharge R more (used φ) ≡ usedCharge R more (used ψ)

@@ -26,7 +26,8 @@ pub struct Leader {
     pub pair: usize,
 }
 
-// What a pair costs, from its block functions: the sum over the blocks of what each costs under its first least polarity.
+// What a pair costs, from its block functions: the sum over the blocks of what each costs under its first least polarity, block 0 with its mask and 256
+// times the others.
 fn pair_charge(rows: &[u64; 256], sizes: Sizes, lanes: &[u8]) -> u32
     requires { ⌜ now rows ≡ blockRows ⌝ }
     requires { ⌜ Limits sizes ⌝ }
@@ -35,14 +36,14 @@ fn pair_charge(rows: &[u64; 256], sizes: Sizes, lanes: &[u8]) -> u32
 {
     let count: usize = 1 << (sizes.n - sizes.k);
     let first = cheapest_first(rows, sizes, lanes);
-    let mut sum = first.charge;
+    let mut others: u32 = 0;
     let mut j: usize = 1;
     while j < count {
         let least = cheapest_other(rows, sizes, lanes, j);
-        sum += least.charge;
+        others += least.charge;
         j += 1;
     }
-    sum
+    first.charge + others * 256
 }
 
 // The leader once the pair of `mixed` and the closed-up polarity w has been tried, from its block functions.

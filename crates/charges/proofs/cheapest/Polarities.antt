@@ -4,7 +4,7 @@
 use mathlib.Core.Path.{_≡_, refl, sym, ap, ap₂, _∙_}
 use mathlib.Core.Bool.{true}
 use Prim.Native.Nat.{ℕ, suc, _+_, _-_, _*_, _/_, _%_, _^_, _≤_, _<_}
-use native.Mathlib.Nat.{mod-eq-of-lt, add-zero}
+use native.Mathlib.Nat.{mod-eq-of-lt}
 use native.Mathlib.Omega.{arith}
 use lib.Bits.{bitAnd, and-mask}
 use lib.Pow.{pow-pos, pow-mono, shr-shr}
@@ -18,9 +18,9 @@ use Rattle.expansions.specs.Least.{better, firstLeast}
 use Rattle.expansions.specs.inner.Charges.{smallSum, usedCharge, sumCharge}
 use Rattle.expansions.specs.inner.Leading.{Leading}
 use Rattle.expansions.proofs.Least.{leading-take, leading-keep, leading-chosen}
-use Rattle.expansions.proofs.Minimal.{polarity-first, leastPolarity-ext, leastPolarity-alike}
+use Rattle.expansions.proofs.Minimal.{polarity-first, leastPolarity-ext}
 use Rattle.expansions.proofs.Rules.{rule-outweighs}
-use Rattle.expansions.proofs.SmallSums.{smallSum-le, leastPolarity-sums, sumCharge-least}
+use Rattle.expansions.proofs.SmallSums.{smallSum-le, stands-for, leastPolarity-scaled, leastPolarity-sums, sumCharge-least}
 use Rattle.charges.specs.inner.Charges.{IsLeastSum, IsCheapest}
 use Rattle.charges.specs.declared.cheapest.LeastSum.{LeastSum}
 use Rattle.charges.specs.declared.cheapest.Cheapest.{Cheapest}
@@ -131,22 +131,22 @@ module _ (F : Family) (k more used sums : ℕ) (least : LeastSum) (hk : k ≤ 3)
       }
 
   -- with no masks
-  pub cheapest-sum : IsLeastSum k (λ φ. byte φ sums) least → (charge : ℕ) → charge ≡ sumCharge (ruleOf F) more (least .sum) * 256
-      → IsCheapest k (cost (λ φ. 0)) (record { charge = charge; polarity = least .polarity })
+  pub cheapest-sum : IsLeastSum k (λ φ. byte φ sums) least → (charge : ℕ) → charge ≡ sumCharge (ruleOf F) more (least .sum)
+      → IsCheapest k (λ φ. usedCharge (ruleOf F) more (byte φ used)) (record { charge = charge; polarity = least .polarity })
   cheapest-sum is charge e =
       let g : ℕ → ℕ = λ φ. byte φ sums in
-      let scaled : leastPolarity k g ≡ leastPolarity k (λ φ. g φ * 256 + 0) =
-      leastPolarity-alike k g (λ φ. g φ * 256 + 0) (λ φ ψ h l c. omega arith) (λ φ ψ h l c. omega arith) in
-      let least-sums = leastPolarity-sums (ruleOf F) (rule-outweighs F) k more g (λ φ. byte φ used) (λ φ. 0) (λ φ h. byte-lt φ used) sum-of (λ φ h. omega arith) in
-      let charged = sumCharge-least (ruleOf F) (rule-outweighs F) k more g (λ φ. byte φ used) (λ φ. 0) (λ φ h. byte-lt φ used) sum-of (λ φ h. omega arith) in
-      let x : ℕ = g (leastPolarity k (λ φ. g φ * 256 + 0)) in
-      let high : (x * 256 + 0) / 256 ≡ x = omega arith in
-      let low : (x * 256 + 0) % 256 ≡ 0 = omega arith in
+      let costs : ℕ → ℕ = λ φ. usedCharge (ruleOf F) more (byte φ used) in
+      let same : leastPolarity k g ≡ leastPolarity k costs =
+      leastPolarity-scaled k g
+      ∙ leastPolarity-sums (ruleOf F) (rule-outweighs F) k more g (λ φ. byte φ used) (λ φ. 0) (λ φ h. byte-lt φ used) sum-of (λ φ h. omega arith)
+      ∙ sym (leastPolarity-scaled k costs) in
       record {
-        polarity = is .polarity ∙ scaled ∙ least-sums;
+        polarity = is .polarity ∙ same;
         charge =
-            e ∙ ap (λ (y : ℕ). sumCharge (ruleOf F) more y * 256) (is .sum ∙ ap g scaled ∙ sym high) ∙ sym (add-zero _)
-            ∙ ap (λ (y : ℕ). sumCharge (ruleOf F) more ((x * 256 + 0) / 256) * 256 + y) (sym low) ∙ charged;
+            e ∙ ap (sumCharge (ruleOf F) more) (is .sum)
+            ∙ stands-for (ruleOf F) (rule-outweighs F) k more g (λ φ. byte φ used) (λ φ. 0) (λ φ h. byte-lt φ used) sum-of (λ φ h. omega arith) (leastPolarity k g)
+            (polarity-first k g .below)
+            ∙ ap costs same;
       }
 
 -- by other costs that are the same under each polarity

@@ -23,6 +23,10 @@ usedAt lanes j φ = foldBelow bitOr 8 (λ o. entry (lanes (j * 8 + o)) φ)
 abbrev pub chargeFrom : Family → (ℕ → ℕ) → ℕ → ℕ → ℕ
 chargeFrom F lanes j φ = usedCharge (ruleOf F) (ones j) (chargedTerms j (usedAt lanes j φ)) * 256 + constantIn j (coefficientIn lanes j 0 φ)
 
+-- what block j costs under φ by a family's rule where all its terms are charged; a block other than block 0 is charged 256 times that
+abbrev pub plainFrom : Family → (ℕ → ℕ) → ℕ → ℕ → ℕ
+plainFrom F lanes j φ = usedCharge (ruleOf F) (ones j) (usedAt lanes j φ)
+
 -- the first of the least of 2 ^ k numbers
 pub record IsLeastSum (k : ℕ) (sums : ℕ → ℕ) (r : LeastSum) : Type 0 where
   pub polarity : r .polarity ≡ leastPolarity k sums

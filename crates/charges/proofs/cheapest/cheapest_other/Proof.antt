@@ -1,14 +1,12 @@
 -- The least small sum stands for the least charge, and its polarity is the first that has it.
 use borrow.Author.Needs.{needs}
-use mathlib.Core.Path.{ap}
-use Prim.Native.Nat.{ℕ, _*_, _≤_, _<_}
+use Prim.Native.Nat.{_≤_, _<_}
 use native.Mathlib.Omega.{arith}
 use lib.Count.{ones-le}
 use Rattle.numbers.specs.Bytes.{at}
 use Rattle.numbers.proofs.Words.{byte-lt}
-use Rattle.charges.proofs.cheapest.BlockCosts.{other-cost}
+use Rattle.charges.proofs.cheapest.BlockCosts.{plain-cost}
 use Rattle.charges.proofs.cheapest.Polarities.{cheapest-sum, cheapest-ext}
-use Rattle.charges.proofs.cheapest.Weighed.{sumCharge-most}
 use Rattle.charges.proofs.cheapest.cheapest_other.Statement.{statement}
 use Rattle.charges.proofs.cheapest.cheapest_other.Tie as tie
 
@@ -34,22 +32,16 @@ few c = let a = c .before .before .before .before .before in omega (arith, c .li
 sum-charge-requires : tie.Need-sum-charge-requires
 sum-charge-requires c κs = (few c, sum-lt (c .before))
 
-mul-t11 : tie.Need-mul-t11
-mul-t11 c =
-    let l = c .before in
-    let a = l .before .before .before .before .before in
-    omega (arith, c .sum-charge .ensures, sumCharge-most (a .args .sizes .family) _ _ (few l) (sum-lt (l .before)))
-
 returns : tie.Need-returns
 returns c =
     let l = c .before in
     let u = l .before .before .before in
     let a = u .before .before in
     cheapest-ext (a .args .sizes .k) _ _ _
-    (other-cost (a .args .sizes .family) (at (a .args .lanes .now)) (a .args .sizes .k) (a .args .j) _ _ (a .pre .1 .0 .mixed) (a .pre .1 .1) (u .used-terms .ensures)
+    (plain-cost (a .args .sizes .family) (at (a .args .lanes .now)) (a .args .sizes .k) (a .args .j) _ _ (a .pre .1 .mixed) (u .used-terms .ensures)
     (l .literals-outside .ensures))
-    (cheapest-sum (a .args .sizes .family) (a .args .sizes .k) _ _ _ _ (a .pre .1 .0 .mixed) (l .before .before .small-sums .ensures) (l .before .least-sum .ensures) _
-    (ap (λ (x : ℕ). x * 256) (c .sum-charge .ensures)))
+    (cheapest-sum (a .args .sizes .family) (a .args .sizes .k) _ _ _ _ (a .pre .1 .mixed) (l .before .before .small-sums .ensures) (l .before .least-sum .ensures) _
+    (c .sum-charge .ensures))
 
 pub cheapest-other-spec : {M : Type 1} → statement M
 cheapest-other-spec =
@@ -60,5 +52,4 @@ cheapest-other-spec =
     least-sum-requires
     literals-outside-requires
     sum-charge-requires
-    mul-t11
     returns)

@@ -9,6 +9,7 @@ use Rattle.search.specs.inner.Search.{polarityAt}
 use Rattle.expansions.specs.Answers.{leastPolarity}
 use Rattle.expansions.proofs.Answers.{only-below, only-above}
 use Rattle.charges.specs.inner.Charges.{chargeFrom}
+use Rattle.charges.proofs.cheapest.BlockCosts.{other-polarity}
 use native.Mathlib.Omega.{arith}
 use Rattle.search.proofs.found.polarity_at.Statement.{statement}
 use Rattle.search.proofs.found.polarity_at.Tie as tie
@@ -51,11 +52,15 @@ cheapest-other-requires c κs =
     let z = e .before .before .before .args .sizes in
     let few : e .before .before .before .args .j < 256 =
     omega (arith, below e, pow-mono {i = z .n - z .k} {j = 8} (omega (arith, p .1 .0 .inputs))) in
-    ((p .0, few, omega (arith, below e, p .1 .1)), (p .1 .0, omega (arith, c .if2 .left)))
+    ((p .0, few, omega (arith, below e, p .1 .1)), p .1 .0)
 
 returns-3 : tie.Need-returns-3
 unfolding polarityAt
-returns-3 c = c .cheapest-other .ensures .polarity ∙ sym (only-below _ _ _ (below (c .before .before)))
+returns-3 c =
+    let a = c .before .before .before .before .before .args in
+    let some : 0 < a .j = omega (arith, c .before .if2 .left) in
+    c .cheapest-other .ensures .polarity ∙ other-polarity (a .sizes .family) (at (a .lanes .now)) (a .sizes .k) (a .j) some
+    ∙ sym (only-below _ _ _ (below (c .before .before)))
 
 pub polarity-at-spec : {M : Type 1} → statement M
 polarity-at-spec =
