@@ -11,7 +11,7 @@ use Rattle.numbers.specs.Bits.{inside}
 use Rattle.algebra.specs.Terms.{holds, value}
 use Rattle.numbers.specs.Tests.{only}
 use Rattle.numbers.proofs.Xor.{xor-eq}
-use Rattle.numbers.proofs.Sums.{fold-ext, xor-swap, xor-zero, xor-op, xor-split, below-split}
+use Rattle.numbers.proofs.Sums.{fold-ext, xor-swap, xor-zero, xor-op, xor-split, xor-only-map, below-split}
 use Rattle.algebra.proofs.Terms.{lowest, holds-even, holds-odd, lowest-once}
 use Rattle.numbers.proofs.Tests.{only-and-r, only-xor, only-zero}
 
@@ -27,6 +27,12 @@ value-xor n pol c d p = simp only-xor (xor-op (2 ^ n) _ _)
 pub value-zero : (n : ℕ) (pol : ℕ → ℕ) (p : ℕ) → value n pol (λ t. 0) p ≡ 0
 unfolding value
 value-zero n pol p = simp only-zero (xor-zero (2 ^ n))
+
+-- a map that passes through the exclusive OR, as taking some of the outputs
+pub value-map : (h : ℕ → ℕ) → h 0 ≡ 0 → ((a b : ℕ) → h (bitXor a b) ≡ bitXor (h a) (h b))
+    → (n : ℕ) (pol c : ℕ → ℕ) (p : ℕ) → h (value n pol c p) ≡ value n pol (λ t. h (c t)) p
+unfolding value
+value-map h z x n pol c p = xor-only-map h z x (2 ^ n) (λ t. holds t (pol t) p) c
 
 -- with no input there is one term, the constant
 pub value-none : (pol c : ℕ → ℕ) (p : ℕ) → value 0 pol c p ≡ c 0

@@ -32,6 +32,12 @@ unfolding counted
 counted-le zero a b h = omega arith
 counted-le (suc c) a b h = h
 
+-- a map that keeps 0 counts nothing that was not counted
+pub counted-fewer : (h : ℕ → ℕ) → h 0 ≡ 0 → (c x : ℕ) → counted (h c) x ≤ counted c x
+unfolding counted
+counted-fewer h z zero x = rw z (omega arith)
+counted-fewer h z (suc c) x = counted-le (h (suc c)) x x (omega arith)
+
 pub counted-mul : (c x : ℕ) → counted c x ≡ counted c 1 * x
 unfolding counted
 counted-mul zero x = sym (zero-mul x)

@@ -17,3 +17,4 @@ pub mod SmallSums
 pub mod BlockTable
 pub mod kronecker
 pub mod Rivals
+pub mod Outputs

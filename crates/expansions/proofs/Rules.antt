@@ -1,6 +1,7 @@
 -- The rules of charging. Under any rule each literal more adds the same to a product's weight (`weight-more`). Under the rule of a family the weights
 -- of p products with l literals are one number for what the family compares first and what it compares then (`rule-cost`, `tie-lt`), and p and l are
--- had back from it (`rule-products`, `rule-literals`).
+-- had back from it (`rule-products`, `rule-literals`). To be no dearer is an order (`no-dearer-trans`, `no-dearer-antisym`), and no more products with no
+-- more literals are no dearer in either family (`no-dearer-fewer`).
 use mathlib.Core.Path.{_≡_}
 use Prim.Native.Nat.{ℕ, zero, suc, _+_, _*_, _/_, _%_, _≤_, _<_}
 use native.Mathlib.Nat.{add-mul, mul-le-mul, mul-le-mul-right}
@@ -8,7 +9,7 @@ use native.Mathlib.Omega.{arith}
 use Rattle.expansions.specs.declared.families.Family.{Family}
 use Rattle.expansions.specs.declared.families.Family.the-variants.{One, Two}
 use Rattle.expansions.specs.Costs.{counted}
-use Rattle.expansions.specs.Rules.{costOf, tieOf, Rule, weight, ruleOf}
+use Rattle.expansions.specs.Rules.{costOf, tieOf, NoDearer, Rule, weight, ruleOf}
 
 -- ---- any rule
 
@@ -55,6 +56,24 @@ rule-literals Two p l hp hl =
     let whole : sum / 512 ≡ 4 * p + l = omega arith in
     let rest : sum % 512 ≡ p = omega arith in
     rw (whole, rest) (omega arith)
+
+-- ---- which costs are no dearer
+
+pub no-dearer-fewer : (F : Family) (p l p′ l′ : ℕ) → p ≤ p′ → l ≤ l′ → NoDearer F p l p′ l′
+no-dearer-fewer One p l p′ l′ hp hl = (hp, λ e. hl)
+no-dearer-fewer Two p l p′ l′ hp hl = (omega arith, λ e. hp)
+
+pub no-dearer-trans : (F : Family) (p l p′ l′ p″ l″ : ℕ) → NoDearer F p l p′ l′ → NoDearer F p′ l′ p″ l″ → NoDearer F p l p″ l″
+no-dearer-trans F p l p′ l′ p″ l″ a b =
+    (omega (arith, a .0, b .0), λ e. omega (arith, a .1 (omega (arith, a .0, b .0)), b .1 (omega (arith, a .0, b .0))))
+
+-- each way round: they are the same costs
+pub no-dearer-antisym : (F : Family) (p l p′ l′ : ℕ) → NoDearer F p l p′ l′ → NoDearer F p′ l′ p l → (p ≡ p′) × (l ≡ l′)
+no-dearer-antisym One p l p′ l′ a b = let e : p ≡ p′ = omega (arith, a .0, b .0) in (e, omega (arith, a .1 e, b .1 (omega arith)))
+no-dearer-antisym Two p l p′ l′ a b =
+    let e : 4 * p + l ≡ 4 * p′ + l′ = omega (arith, a .0, b .0) in
+    let same : p ≡ p′ = omega (arith, a .1 e, b .1 (omega arith)) in
+    (same, omega arith)
 
 -- ---- what the search needs of them
 

@@ -9,3 +9,4 @@ pub mod BlockTable
 pub mod kronecker
 pub mod inner
 pub mod Rivals
+pub mod Outputs

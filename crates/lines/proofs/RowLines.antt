@@ -70,7 +70,7 @@ pub record PointValue (m p o : ℕ) : Type 0 where
   pub below : o < 2 ^ m
   pub some : o ≡ 0 → ⊥
 
-plain-on : Plain (bytes "on")
+pub plain-on : Plain (bytes "on")
 unfolding bytes
 plain-on = (lit< tt, (lit< tt, tt))
 

@@ -19,12 +19,11 @@ use Rattle.numbers.proofs.Sums.{fold-ext}
 use Rattle.expansions.specs.declared.kinds.Kind.the-variants as kind
 use Rattle.expansions.specs.declared.families.Family.the-variants.{One}
 use Rattle.expansions.specs.Costs.{counted, products}
-use Rattle.expansions.specs.Rules.{NoDearer}
 use Rattle.expansions.specs.kronecker.Letters.{Literal, absent, plain, complemented, literalTrue, literalCount, termLiteral, termTrue, kroneckerValue}
 use Rattle.expansions.specs.kronecker.Costs.{termLiterals, kroneckerLiterals}
 use Rattle.expansions.specs.kronecker.Answers.{KroneckerMinimal}
 use Rattle.expansions.proofs.Costs.{products-le}
-use Rattle.expansions.proofs.Rivals.{kronecker-rivals}
+use Rattle.expansions.proofs.Rivals.{kronecker-minimal-least}
 use Rattle.listings.specs.Parts.{bytes, same}
 use Rattle.listings.specs.Listing.{tabbed, line, decimal, descending, cubeLines}
 use Rattle.listings.specs.inner.Lengths.{digitsOf}
@@ -222,5 +221,5 @@ module _ (n m : ℕ) (f letters c : ℕ → ℕ) (p l : ℕ) (hn : n ≤ 8) (min
         gives = λ q h. kronecker-listing-value n m letters c p l small q ∙ minimal .answer .gives q h;
         products-stated = kronecker-stated-products n m letters c p l fewer ∙ sym counts-products;
         literals-stated = kronecker-stated-literals n m letters c p l few ∙ sym counts-literals;
-        cheapest = rw (counts-products, counts-literals) (kronecker-rivals n f (NoDearer One p l) (minimal .cheapest));
+        least = rw (counts-products, counts-literals) (kronecker-minimal-least n f letters c p l minimal);
       }

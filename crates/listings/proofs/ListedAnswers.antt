@@ -8,9 +8,8 @@ use Rattle.search.specs.declared.expansion.Expansion.{Expansion}
 use Rattle.expansions.specs.Members.{polarity}
 use Rattle.expansions.specs.declared.families.Family.{Family}
 use Rattle.expansions.specs.declared.kinds.Kind.the-variants.{Block}
-use Rattle.expansions.specs.Rules.{NoDearer}
 use Rattle.expansions.proofs.Costs.{literals-lt}
-use Rattle.expansions.proofs.Rivals.{block-rivals}
+use Rattle.expansions.proofs.Rivals.{minimal-least}
 use Rattle.listings.specs.Listing.{numbersOf, listing}
 use Rattle.listings.specs.inner.Listable.{Listable}
 use Rattle.listings.specs.Meaning.{listingValue, listingProducts, listingLiterals, IsListing}
@@ -46,6 +45,5 @@ module _ (family : Family) (n m k : ℕ) (e : Expansion) (f : ℕ → ℕ) (hn :
         gives = answer-given mask small;
         products-stated = stated-products family n m k e answer-listable (omega arith) few ∙ sym counts-products;
         literals-stated = stated-literals family n m k e answer-listable (omega arith) few ∙ sym counts-literals;
-        cheapest =
-            rw (counts-products, counts-literals) (block-rivals n k f (NoDearer family (e .products) (e .literals)) (minimal .cheapest));
+        least = rw (counts-products, counts-literals) (minimal-least family n k f _ _ _ _ _ _ _ minimal);
       }

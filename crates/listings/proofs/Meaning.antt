@@ -83,7 +83,7 @@ counted-only (suc c) b = refl
 abbrev content : List ℕ → List (List ℕ) → List ℕ
 content word fs = word ++ tabbed fs
 
-lines-line : (word : List ℕ) (fs : List (List ℕ)) (s : List ℕ) → Plain word → AllPlain fs → linesOf (line word fs ++ s) ≡ (word ++ tabbed fs) ∷ linesOf s
+pub lines-line : (word : List ℕ) (fs : List (List ℕ)) (s : List ℕ) → Plain word → AllPlain fs → linesOf (line word fs ++ s) ≡ (word ++ tabbed fs) ∷ linesOf s
 unfolding linesOf finished
 lines-line word fs s p ps = rw (parts-lines word fs s p ps)
 

@@ -1,12 +1,15 @@
 -- Laws of foldBelow. Those that need it are stated once for every associative, commutative operation with unit 0:
 -- exclusive OR and addition are two.
 use mathlib.Core.Path.{_≡_, refl, sym, ap, ap₂, _∙_, subst}
+use mathlib.Core.Bool.{Bool}
 use Prim.Native.Nat.{ℕ, zero, suc, _+_, _*_, _/_, _%_, _^_, _<_}
 use native.Mathlib.Nat.{pow-suc, add-zero}
 use native.Mathlib.Omega.{arith}
 use native.Mathlib.Numerals.{add-one}
 use lib.Bits.{bitXor, xor-comm, xor-zero-r}
 use Rattle.numbers.specs.Sums.{foldBelow, xorBelow}
+use Rattle.numbers.specs.Tests.{only}
+use Rattle.numbers.proofs.Tests.{only-map}
 use Rattle.numbers.proofs.Xor.{xor-assoc}
 
 -- equal at each index
@@ -72,6 +75,11 @@ xor-op = fold-op bitXor xor-assoc xor-comm xor-zero-r
 
 pub xor-split : (n : ℕ) (g : ℕ → ℕ) → xorBelow (2 ^ suc n) g ≡ bitXor (xorBelow (2 ^ n) (λ s. g (s * 2))) (xorBelow (2 ^ n) (λ s. g (s * 2 + 1)))
 xor-split = fold-split bitXor xor-assoc xor-comm xor-zero-r
+
+-- a map that passes through the exclusive OR, as taking some of the bits, passes through that of the numbers that a test lets in
+pub xor-only-map : (h : ℕ → ℕ) → h 0 ≡ 0 → ((a b : ℕ) → h (bitXor a b) ≡ bitXor (h a) (h b)) → (N : ℕ) (test : ℕ → Bool) (c : ℕ → ℕ)
+    → h (xorBelow N (λ i. only (test i) (c i))) ≡ xorBelow N (λ i. only (test i) (h (c i)))
+xor-only-map h z x N test c = fold-map bitXor h z x N _ ∙ fold-ext bitXor N _ _ (λ i l. only-map h z (test i) (c i))
 
 -- ---- numbers below a bound
 

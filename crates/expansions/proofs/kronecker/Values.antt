@@ -14,8 +14,8 @@ use Rattle.numbers.specs.Bits.{bit}
 use Rattle.numbers.specs.Tests.{only}
 use Rattle.numbers.proofs.Bits.{bit-below}
 use Rattle.numbers.proofs.Xor.{xor-assoc, xor-eq}
-use Rattle.numbers.proofs.Sums.{fold-ext, fold-map, xor-op}
-use Rattle.numbers.proofs.Tests.{only-and, only-xor, only-zero, only-map, and-intro, and-left, and-right}
+use Rattle.numbers.proofs.Sums.{fold-ext, fold-map, xor-op, xor-only-map}
+use Rattle.numbers.proofs.Tests.{only-and, only-xor, only-zero, and-intro, and-left, and-right}
 use Rattle.expansions.proofs.Least.{below-one-more}
 use Rattle.expansions.specs.kronecker.Letters.{literalOf, literalTrue, TermTrue, termTrue, kroneckerValue}
 use Rattle.expansions.proofs.kronecker.Halves.{bit-top, below-halves, half-lt, fold-halves}
@@ -78,11 +78,11 @@ pub kronecker-value-xor : (n : ℕ) (letters c d : ℕ → ℕ) (p : ℕ)
 unfolding kroneckerValue
 kronecker-value-xor n letters c d p = simp only-xor (xor-op (2 ^ n) _ _)
 
--- a map that passes through exclusive OR, as taking one output or some of them
+-- a map that passes through the exclusive OR, as taking some of the outputs
 pub kronecker-value-map : (h : ℕ → ℕ) → h 0 ≡ 0 → ((a b : ℕ) → h (bitXor a b) ≡ bitXor (h a) (h b))
     → (n : ℕ) (letters c : ℕ → ℕ) (p : ℕ) → h (kroneckerValue n letters c p) ≡ kroneckerValue n letters (λ t. h (c t)) p
 unfolding kroneckerValue
-kronecker-value-map h z x n letters c p = fold-map bitXor h z x (2 ^ n) _ ∙ fold-ext bitXor (2 ^ n) _ _ (λ t l. only-map h z (termTrue n letters t p) (c t))
+kronecker-value-map h z x n letters c p = xor-only-map h z x (2 ^ n) (λ t. termTrue n letters t p) c
 
 -- with no input there is one term, the constant
 pub kronecker-value-none : (letters c : ℕ → ℕ) (p : ℕ) → kroneckerValue 0 letters c p ≡ c 0
