@@ -24,6 +24,7 @@ use Rattle.expansions.specs.Least.{better, firstLeast, chosen}
 use Rattle.expansions.specs.BlockTable.{entry}
 use Rattle.expansions.specs.Answers.{blockFunction, memberCoefficient, blockCharge, leastPolarity, pairCharge, validPair, leastPair}
 use Rattle.expansions.specs.Answers.{answerPair, answerMixed, answerFixed, answerPolarity, expandedCoefficient, answerInverted, withoutConstant, answerCoefficient}
+use Rattle.expansions.specs.Outputs.{chosenTable}
 use Rattle.expansions.specs.kronecker.Letters.{literalOf, literalTrue, literalCount, lettersOf}
 use Rattle.expansions.specs.kronecker.Steps.{stepValue, without, kroneckerStep, kroneckerCoefficient}
 use Rattle.expansions.specs.kronecker.Costs.{termLiterals, kroneckerLiterals, kroneckerCharge}
@@ -47,7 +48,7 @@ use Rattle.text.specs.Compile.{answerListing}
 use Rattle.text.specs.Print.{refusedLine, printedFor, printed}
 use Rattle.designs.specs.Designs.{costOf, termsBelow, computed, Design, states, Holds, markedDesigns}
 use Rattle.designs.specs.Designs.{orTable, zeroTable, oneTable, pointTable, withoutTable, dearerTable, oppositeTable, printedTable}
-use Rattle.designs.specs.Designs.{splitTable, plainTable, endsTable, oneOfThreeTable, familiesTable, tieTable}
+use Rattle.designs.specs.Designs.{splitTable, plainTable, endsTable, oneOfThreeTable, noneOrTwoTable, twoOfThreeTable, familiesTable, sharedTable, tieTable}
 
 -- ---- the test
 
@@ -76,7 +77,8 @@ all-hold (e ∷ ds) t d m = go (all-hold ds (and-right (agrees e) (allAgree ds) 
 
 all-agree : T (allAgree markedDesigns)
 unfolding same agrees allAgree markedDesigns computed termsBelow orTable zeroTable oneTable pointTable withoutTable printedTable
-    dearerTable oppositeTable splitTable plainTable endsTable oneOfThreeTable familiesTable tieTable
+    dearerTable oppositeTable splitTable plainTable endsTable oneOfThreeTable noneOrTwoTable twoOfThreeTable familiesTable sharedTable tieTable
+    chosenTable
     foldBelow inside pack only tabulate tableRefusal sizesRefusal onesIn ones xorInside coefficient entry
     putDigit lowDigit dropDigit gather spread outside join polarity counted weight products literals better firstLeast chosen
     blockFunction memberCoefficient price blockCharge leastPolarity pairCharge validPair leastPair

@@ -1,7 +1,7 @@
 -- Document 01, "Marked designs", its printed example, the limits that it names and some worked texts and listings, with designs for document 02's
--- `K`, for its two families and for its inverters, as one table: "The marked designs form one proved table over the definitions with a shared statement". A row is a
--- question about the definitions and the numbers that answer it; bytes are numbers too. The one statement is that they are equal, at every row
--- (proofs/Designs, `designs-hold`).
+-- `K`, for its two families, for its inverters and for fewer outputs, as one table: "The marked designs form one proved table over the definitions with a
+-- shared statement". A row is a question about the definitions and the numbers that answer it; bytes are numbers too. The one statement is that they are
+-- equal, at every row (proofs/Designs, `designs-hold`).
 use mathlib.Core.List.{List, [], _∷_, _++_}
 use mathlib.Core.Path.{_≡_}
 use Prim.Native.Nat.{ℕ, zero, suc, _^_}
@@ -16,6 +16,7 @@ use Rattle.expansions.specs.declared.families.Family.{Family}
 use Rattle.expansions.specs.declared.families.Family.the-variants.{One, Two}
 use Rattle.expansions.specs.declared.kinds.Kind.{Kind}
 use Rattle.expansions.specs.declared.kinds.Kind.the-variants.{Block, Kronecker}
+use Rattle.expansions.specs.Outputs.{chosenTable}
 use Rattle.expansions.specs.kronecker.Costs.{kroneckerLiterals}
 use Rattle.expansions.specs.kronecker.Answers as kronecker
 use Rattle.expansions.specs.kronecker.Answers.{answerLetters}
@@ -43,6 +44,8 @@ pub data Asked : Type 0 where
   costOf : Family → (n k : ℕ) → List ℕ → Asked
   -- the letters, from xn down, and the products and literals of the Kronecker answer for a table of n inputs
   kindFor : (n : ℕ) → List ℕ → Asked
+  -- the chosen outputs of a table of m outputs
+  chosenOf : (m s : ℕ) → List ℕ → Asked
   -- what a table text means
   meaningOf : String → Asked
   -- what the program prints for a text: the listing of the answer, or the line `refused`
@@ -104,6 +107,7 @@ computed (entryAt g φ) = entry g φ ∷ []
 computed (answerFor F n k table) = answerMixed F n k (at table) ∷ answerFixed F n k (at table) ∷ costs F n k table ++ answerInverted F n k (at table) ∷ []
 computed (costOf F n k table) = costs F n k table
 computed (kindFor n table) = kindCosts n table
+computed (chosenOf m s table) = chosenTable m s table
 computed (meaningOf text) = meaning (reading (bytes text))
 computed (printedOf text) = printed (bytes text)
 computed (listingOf family n m k e) = listing family n m k e
@@ -144,6 +148,14 @@ withoutTable = 0 ∷ 1 ∷ 2 ∷ 1 ∷ []
 -- document 02, W-207, "x1x3 on output 0 with x2x3 without x1 on output 1 (n = 3)"
 unfoldable pub dearerTable : List ℕ
 dearerTable = 0 ∷ 0 ∷ 0 ∷ 0 ∷ 0 ∷ 1 ∷ 2 ∷ 1 ∷ []
+
+-- output 0 is none of three inputs, output 1 exactly two of them
+unfoldable pub noneOrTwoTable : List ℕ
+noneOrTwoTable = 1 ∷ 0 ∷ 0 ∷ 2 ∷ 0 ∷ 2 ∷ 2 ∷ 0 ∷ []
+
+-- exactly two of three inputs
+unfoldable pub twoOfThreeTable : List ℕ
+twoOfThreeTable = 0 ∷ 0 ∷ 0 ∷ 1 ∷ 0 ∷ 1 ∷ 1 ∷ 0 ∷ []
 
 -- output 0 is x2, output 1 is x2 complemented (n = 2)
 unfoldable pub oppositeTable : List ℕ
@@ -236,6 +248,10 @@ familiesListing =
     bytes "form2\t4\t2\t0\t0\t11\t10\t19\ninv\t10\nterm\t---0\t01\nterm\t--0-\t11\nterm\t-1--\t11\nterm\t-1-0\t10\n"
     ++ bytes "term\t-10-\t01\nterm\t0---\t11\nterm\t0-0-\t10\nterm\t0-00\t01\nterm\t01--\t10\nterm\t0100\t10\nend\n"
 
+-- the same table with a third output, x1 with x2
+unfoldable pub sharedTable : List ℕ
+sharedTable = 0 ∷ 0 ∷ 0 ∷ 6 ∷ 0 ∷ 0 ∷ 3 ∷ 4 ∷ 0 ∷ 2 ∷ 3 ∷ 5 ∷ 0 ∷ 3 ∷ 1 ∷ 6 ∷ []
+
 -- a table of four inputs on which two expansions have the least charge of family two
 unfoldable pub tieTable : List ℕ
 tieTable = 0 ∷ 0 ∷ 0 ∷ 2 ∷ 0 ∷ 2 ∷ 3 ∷ 3 ∷ 0 ∷ 3 ∷ 1 ∷ 0 ∷ 3 ∷ 1 ∷ 2 ∷ 1 ∷ []
@@ -272,6 +288,14 @@ markedDesigns =
     ∷ states (costOf One 3 1 dearerTable) (2 ∷ 5 ∷ [])
     ∷ states (costOf One 3 2 dearerTable) (2 ∷ 5 ∷ [])
     ∷ states (costOf One 3 3 dearerTable) (3 ∷ 6 ∷ [])
+    -- document 02, W-206, "any non-empty choice of its outputs": output 1 alone has fewer products, 3 against 4, and more literals, 7 against 6
+    ∷ states (chosenOf 2 2 noneOrTwoTable) twoOfThreeTable
+    ∷ states (costOf One 3 1 noneOrTwoTable) (4 ∷ 6 ∷ [])
+    ∷ states (costOf One 3 1 twoOfThreeTable) (3 ∷ 7 ∷ [])
+    -- family two: outputs 0 and 1 of three have the smaller charge, 4 * 10 + 19 = 59 against 4 * 9 + 24 = 60, and more products
+    ∷ states (chosenOf 3 3 sharedTable) familiesTable
+    ∷ states (costOf Two 4 0 sharedTable) (9 ∷ 24 ∷ [])
+    ∷ states (costOf Two 4 0 familiesTable) (10 ∷ 19 ∷ [])
     -- "M = 2^k − 1, i = 0, 0 products", and so 0 literals, and no output inverted
     ∷ states (answerFor One 2 0 zeroTable) (0 ∷ 0 ∷ 0 ∷ 0 ∷ 0 ∷ [])
     ∷ states (answerFor One 2 1 zeroTable) (1 ∷ 0 ∷ 0 ∷ 0 ∷ 0 ∷ [])
@@ -344,6 +368,9 @@ markedDesigns =
     ∷ states (costOf One 3 1 endsTable) (4 ∷ 9 ∷ [])
     ∷ states (costOf One 3 2 endsTable) (4 ∷ 9 ∷ [])
     ∷ states (costOf One 3 3 endsTable) (5 ∷ 10 ∷ [])
+    -- with `K` too output 1 alone has fewer products and more literals
+    ∷ states (kindFor 3 noneOrTwoTable) (bytes "NNN" ++ 4 ∷ 6 ∷ [])
+    ∷ states (kindFor 3 twoOfThreeTable) (bytes "SPP" ++ 3 ∷ 7 ∷ [])
     -- exactly one of three inputs costs 3 and 7 with `K`, and 3 and 6 with k = 2
     ∷ states (kindFor 3 oneOfThreeTable) (bytes "SNN" ++ 3 ∷ 7 ∷ [])
     ∷ states (costOf One 3 2 oneOfThreeTable) (3 ∷ 6 ∷ [])

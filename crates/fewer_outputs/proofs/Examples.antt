@@ -1,0 +1,21 @@
+-- Document 01's printed example with output 0 left out (`left-output-1`), and with output 1 (`left-output-0`): a line whose other outputs are all `0` goes.
+use mathlib.Core.Path.{_≡_, refl}
+use Prim.Native.String.{String}
+use lib.Count.{ones}
+use Rattle.numbers.specs.Nonzero.{ifNonzero}
+use Rattle.listings.specs.Parts.{parts, bytes, same, fields}
+use Rattle.listings.specs.Listing.{tabbed, line, descending, digitCount, decimal}
+use Rattle.listings.specs.Meaning.{outputsSaid, finished, linesOf, overLines}
+use Rattle.fewer_outputs.specs.Choices.{chosenCharacters, pointWith, chosenLine, chosenText}
+
+-- the text that is printed in document 01, "Text in, listing out"
+abbrev printedText : String
+printedText = "table\t2\t2\t1\non\t0\t01\non\t1\t10\non\t2\t10\non\t3\t10\nend\n"
+
+pub left-output-1 : chosenText 2 (bytes printedText) ≡ bytes "table\t2\t1\t1\non\t0\t1\nend\n"
+unfolding chosenText chosenLine pointWith chosenCharacters ifNonzero outputsSaid overLines linesOf finished parts fields same bytes line tabbed decimal descending digitCount ones
+left-output-1 = refl
+
+pub left-output-0 : chosenText 1 (bytes printedText) ≡ bytes "table\t2\t1\t1\non\t1\t1\non\t2\t1\non\t3\t1\nend\n"
+unfolding chosenText chosenLine pointWith chosenCharacters ifNonzero outputsSaid overLines linesOf finished parts fields same bytes line tabbed decimal descending digitCount ones
+left-output-0 = refl

@@ -1,0 +1,4 @@
+pub mod Choices
+pub mod Texts
+pub mod Examples
+pub mod FewerPins
