@@ -74,6 +74,10 @@ pub struct Cost {
 }
 
 impl Cost {
+    pub const fn new(products: usize, literals: usize) -> Self {
+        Cost { products, literals }
+    }
+
     /// The cost of a term with this many literals.
     pub fn of_term(literals: usize, coefficient: u8) -> Self {
         let products = usize::from(coefficient != 0);

@@ -28,6 +28,11 @@ impl Family {
         }
     }
 
+    /// Whether a cost is at most another one in the family's order.
+    pub fn no_dearer(self, cost: Cost, than: Cost) -> bool {
+        self.order(cost) <= self.order(than)
+    }
+
     /// The family as the reading call returns it.
     pub fn number(self) -> u64 {
         match self {
@@ -62,20 +67,18 @@ impl Family {
 mod tests {
     use super::*;
 
-    fn cost(products: usize, literals: usize) -> Cost {
-        Cost { products, literals }
-    }
-
     #[test]
     fn costs_are_weighed_by_the_family() {
         let before = |family: Family, one, other| family.order(one) < family.order(other);
         // Fewer products, whatever the literals; the charges are 47 and 46.
-        assert!(before(Family::One, cost(7, 19), cost(8, 14)));
-        assert!(before(Family::Two, cost(8, 14), cost(7, 19)));
+        assert!(before(Family::One, Cost::new(7, 19), Cost::new(8, 14)));
+        assert!(before(Family::Two, Cost::new(8, 14), Cost::new(7, 19)));
         // Equal charges: fewer products.
-        assert!(before(Family::Two, cost(3, 7), cost(4, 3)));
+        assert!(before(Family::Two, Cost::new(3, 7), Cost::new(4, 3)));
         // Equal products: fewer literals.
-        assert!(Family::ALL.into_iter().all(|family| before(family, cost(3, 6), cost(3, 7))));
+        for family in Family::ALL {
+            assert!(before(family, Cost::new(3, 6), Cost::new(3, 7)));
+        }
     }
 
     #[test]

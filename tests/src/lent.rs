@@ -1,5 +1,7 @@
-//! Buffers lent to a call, with a margin on both sides that no call may write.
+//! Buffers lent to a call, with a margin on both sides that no call may write, and the two calls on texts with such
+//! buffers.
 
+use crate::calls::{self, CompileAnswer, ReadAnswer};
 use std::fmt::Debug;
 use std::ops::Range;
 
@@ -63,6 +65,30 @@ pub fn answer<const N: usize>(call: impl FnOnce(&mut [u64; N])) -> [u64; N] {
     call(places.inside_mut().try_into().expect("there are N places"));
     places.check_margins();
     places.inside().try_into().expect("there are N places")
+}
+
+/// Makes the reading call with margins around every buffer.
+#[inline]
+#[track_caller]
+pub fn run_read(text: &[u8], lent: &[u8]) -> (ReadAnswer, Lent<u8>) {
+    let text = Lent::new(text);
+    let mut table = Lent::new(lent);
+    let answer = answer(|places| calls::read(text.inside(), table.inside_mut(), places));
+    text.check_untouched();
+    table.check_margins();
+    (answer, table)
+}
+
+/// Makes the text call with margins around every buffer.
+#[inline]
+#[track_caller]
+pub fn run_compile(text: &[u8], lent: &[u8]) -> (CompileAnswer, Lent<u8>) {
+    let text = Lent::new(text);
+    let mut output = Lent::new(lent);
+    let answer = answer(|places| calls::compile(text.inside(), output.inside_mut(), places));
+    text.check_untouched();
+    output.check_margins();
+    (answer, output)
 }
 
 #[cfg(test)]

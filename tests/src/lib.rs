@@ -13,6 +13,7 @@ pub mod family;
 pub mod kronecker;
 pub mod lent;
 pub mod marked;
+pub mod outputs;
 pub mod program;
 pub mod seeded;
 pub mod text;

@@ -3,6 +3,7 @@
 
 pub mod families;
 pub mod kronecker;
+pub mod outputs;
 pub mod pairs;
 
 use std::iter::chain;

@@ -1,11 +1,12 @@
 //! The designs of `examples/`: `rmform` writes each stored listing, the evaluator agrees, and `rmcheck` says
 //! `same` of a `form` or `form2` listing and refuses a `kron` listing with 11, line 1; the design that is there
-//! with its outputs the other way round, and the one for both families; and the edited listings of
-//! `examples/checks/`, with the line that `rmcheck` writes for each.
+//! with its outputs the other way round, the one with outputs left out, and the one for both families; and the
+//! edited listings of `examples/checks/`, with the line that `rmcheck` writes for each.
 
 use outside_cases::check;
 use outside_cases::class::before_inverters;
 use outside_cases::family::Family;
+use outside_cases::outputs::Choice;
 use outside_cases::program::{run, run_check};
 use outside_cases::seeded::tables::output_bits;
 use outside_cases::text::listing::Listing;
@@ -74,6 +75,19 @@ fn outputs_the_other_way_round() {
     let mask = output_bits(plain.1.m);
     assert_eq!(before_inverters(&plain.1.table, mask), low.1.table);
     assert_eq!(Listing { inverted: plain.0.inverted ^ mask, ..plain.0 }, low.0);
+}
+
+/// One design with outputs left out: the text is made from the whole's, and it costs less.
+#[test]
+fn outputs_left_out() {
+    let tables = ["bcd-7-segment.table", "bcd-7-segment-e-g.table"];
+    let texts = tables.map(|name| read(directory().join(name)).expect("a table text"));
+    assert_eq!(Choice::new(0b101_0000).of_text(&texts[0]), texts[1]);
+    let [whole, left] = texts.map(|text| {
+        let listing = run(&[&text], || ());
+        Listing::read(&design(&text), &listing).expect("a sound listing").counted()
+    });
+    assert!(Family::One.order(left) < Family::One.order(whole));
 }
 
 /// One design for both families: the tables are the same, each listing is the cheaper one in its own family's

@@ -1,12 +1,11 @@
 //! The reading call and the text call against the evaluator's own reader, search and writer.
 
-use outside_cases::calls::{self, CompileAnswer, ReadAnswer};
 use outside_cases::check::{Verdict, check};
 use outside_cases::class::Class;
 use outside_cases::evaluator::{Refusal, places};
 use outside_cases::family::Family;
 use outside_cases::kronecker::{Kinds, order};
-use outside_cases::lent::{Lent, answer};
+use outside_cases::lent::{run_compile, run_read};
 use outside_cases::marked::families::{COMPARED, Compared, EXAMPLE_TWO, OUTPUTS};
 use outside_cases::marked::{EXAMPLE, accepted, bytes, refused};
 use outside_cases::seeded::Seeded;
@@ -18,26 +17,6 @@ use outside_cases::seeded::texts::{
 use outside_cases::text::kron::KronListing;
 use outside_cases::text::listing::Listing;
 use outside_cases::text::{Design, Kind, compile, judge_output, judge_read, read, read_answer};
-
-/// Makes the reading call with margins around every buffer.
-fn run_read(text: &[u8], lent: &[u8]) -> (ReadAnswer, Lent<u8>) {
-    let text = Lent::new(text);
-    let mut table = Lent::new(lent);
-    let answer = answer(|places| calls::read(text.inside(), table.inside_mut(), places));
-    text.check_untouched();
-    table.check_margins();
-    (answer, table)
-}
-
-/// Makes the text call with margins around every buffer.
-fn run_compile(text: &[u8], lent: &[u8]) -> (CompileAnswer, Lent<u8>) {
-    let text = Lent::new(text);
-    let mut output = Lent::new(lent);
-    let answer = answer(|places| calls::compile(text.inside(), output.inside_mut(), places));
-    text.check_untouched();
-    output.check_margins();
-    (answer, output)
-}
 
 /// The reading call on one text, with a lent table of this length.
 fn check_read(seeded: &mut Seeded, text: &[u8], table_length: usize) {

@@ -40,6 +40,22 @@ pub fn any_table(seeded: &mut Seeded, n: usize, m: usize) -> Vec<u8> {
     maker(seeded, n, m)
 }
 
+/// A table with each bit 1 once in `odds` draws.
+pub fn bits_table(seeded: &mut Seeded, n: usize, m: usize, odds: usize) -> Vec<u8> {
+    table_of(n, m, |_| (0..m).map(|o| u8::from(seeded.once_in(odds)) << o).sum())
+}
+
+/// A table whose outputs share products: each is the exclusive OR of some of at most three functions, inverted or
+/// not.
+pub fn combined_table(seeded: &mut Seeded, n: usize, m: usize) -> Vec<u8> {
+    let few = seeded.within(1, 3);
+    let functions = any_table(seeded, n, few);
+    let combined: Vec<u8> = (0..m).map(|_| seeded.byte() & output_bits(few)).collect();
+    let inverted = seeded.byte();
+    let output = |p: usize, o: usize| (functions[p] & combined[o]).count_ones() as u8 % 2;
+    table_of(n, m, |p| inverted ^ (0..m).map(|o| output(p, o) << o).sum::<u8>())
+}
+
 type Maker = fn(&mut Seeded, usize, usize) -> Vec<u8>;
 
 const STRUCTURES: [Maker; 8] = [
