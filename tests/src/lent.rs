@@ -67,28 +67,31 @@ pub fn answer<const N: usize>(call: impl FnOnce(&mut [u64; N])) -> [u64; N] {
     places.inside().try_into().expect("there are N places")
 }
 
-/// Makes the reading call with margins around every buffer.
-#[inline]
+/// Makes a call that is lent a text and one buffer, with margins around both: its answer, and the buffer as it left it.
 #[track_caller]
-pub fn run_read(text: &[u8], lent: &[u8]) -> (ReadAnswer, Lent<u8>) {
+fn run<const N: usize>(
+    text: &[u8],
+    lent: &[u8],
+    call: impl FnOnce(&[u8], &mut [u8], &mut [u64; N]),
+) -> ([u64; N], Lent<u8>) {
     let text = Lent::new(text);
-    let mut table = Lent::new(lent);
-    let answer = answer(|places| calls::read(text.inside(), table.inside_mut(), places));
+    let mut lent = Lent::new(lent);
+    let answer = answer(|places| call(text.inside(), lent.inside_mut(), places));
     text.check_untouched();
-    table.check_margins();
-    (answer, table)
+    lent.check_margins();
+    (answer, lent)
 }
 
-/// Makes the text call with margins around every buffer.
-#[inline]
+/// The reading call with this text and this table.
 #[track_caller]
-pub fn run_compile(text: &[u8], lent: &[u8]) -> (CompileAnswer, Lent<u8>) {
-    let text = Lent::new(text);
-    let mut output = Lent::new(lent);
-    let answer = answer(|places| calls::compile(text.inside(), output.inside_mut(), places));
-    text.check_untouched();
-    output.check_margins();
-    (answer, output)
+pub fn run_read(text: &[u8], table: &[u8]) -> (ReadAnswer, Lent<u8>) {
+    run(text, table, calls::read)
+}
+
+/// The text call with this text and this output buffer.
+#[track_caller]
+pub fn run_compile(text: &[u8], output: &[u8]) -> (CompileAnswer, Lent<u8>) {
+    run(text, output, calls::compile)
 }
 
 #[cfg(test)]

@@ -13,7 +13,7 @@ use outside_cases::marked::outputs::{
 use outside_cases::outputs::Choice;
 use outside_cases::seeded::Seeded;
 use outside_cases::seeded::tables::{
-    any_table, bits_table, combined_table, every_table, random_table, sparse_table,
+    Maker, any_table, bits_table, combined_table, every_table, random_table, sparse_table,
 };
 use outside_cases::text::kron::KronListing;
 use outside_cases::text::listing::Listing;
@@ -126,9 +126,6 @@ fn every_choice() {
     let tables: Vec<Table> = sizes.flat_map(|(n, m)| drawn_tables(&mut seeded, n, m)).collect();
     check_tables(&tables);
 }
-
-/// A table of n inputs and m outputs, drawn.
-type Maker = fn(&mut Seeded, usize, usize) -> Vec<u8>;
 
 /// Tables of n inputs and eight outputs, which have 255 choices.
 fn check_eight_outputs(n: usize, seed: u64, makers: &[Maker]) {

@@ -116,8 +116,8 @@ statedLiterals s = getD (firstNumbers s) (length (firstNumbers s) - 1) 0
 -- Demand 3 of the bytes of a listing for the table f, at each family and each kind of k: "The listing's own lines give every output at every point; its
 -- first-line counts are those of its lines; and every other expansion of the class at that k that gives the same outputs has at least as many
 -- products, and where as many, at least as many literals." Document 02, W-203: of `table2`, "demand 3 weighs its rivals in the same way", by
--- 4 × products + literals, "and among equal charges by fewest products". The listing is of an expansion of the class: its counts are those of one, and the
--- least (`LeastCost`)
+-- 4 × products + literals, "and among equal charges by fewest products". The counts of the lines are those of an expansion of the class,
+-- and the least (`LeastCost`)
 pub record IsListing (n : ℕ) (family : Family) (kind : Kind) (f : ℕ → ℕ) (bytes : List ℕ) : Type 0 where
   pub gives : (p : ℕ) → p < 2 ^ n → listingValue bytes p ≡ f p
   pub products-stated : statedProducts bytes ≡ listingProducts bytes

@@ -56,7 +56,8 @@ pub fn combined_table(seeded: &mut Seeded, n: usize, m: usize) -> Vec<u8> {
     table_of(n, m, |p| inverted ^ (0..m).map(|o| output(p, o) << o).sum::<u8>())
 }
 
-type Maker = fn(&mut Seeded, usize, usize) -> Vec<u8>;
+/// A table of n inputs and m outputs, drawn.
+pub type Maker = fn(&mut Seeded, usize, usize) -> Vec<u8>;
 
 const STRUCTURES: [Maker; 8] = [
     |_, n, m| table_of(n, m, |_| 0),
