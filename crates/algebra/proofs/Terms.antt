@@ -1,23 +1,20 @@
 -- The truth of a term at a point: by the lowest input and the rest, and in document 01's words (`holds-words`).
 use mathlib.Core.Path.{_≡_, refl, sym, ap, _∙_}
-use mathlib.Core.Bool.{Bool, true, _&&_}
+use mathlib.Core.Bool.{true, _&&_}
 use mathlib.Core.Logic.{_↔_}
 use Prim.Native.Nat.{ℕ, zero, suc, _+_, _*_, _/_, _%_, _^_, _<_}
 use native.Mathlib.Nat.{add-zero}
 use native.Mathlib.Omega.{arith}
-use lib.Bits.{bitXor, differ, xor-zero-r}
+use lib.Bits.{bitAnd, bitXor, differ, xor-zero-r}
 use lib.Dec.{eqb, T}
 use Rattle.numbers.specs.Bits.{bit, inside}
-use Rattle.algebra.specs.Terms.{literal, LiteralsTrue, holds}
+use Rattle.algebra.specs.Terms.{literal, LiteralsTrue, holds, lowest}
 use Rattle.numbers.specs.Tests.{only}
+use Rattle.numbers.proofs.Ands.{and-xor}
 use Rattle.numbers.proofs.Xor.{low-lt, xor-half, xor-low}
 use Rattle.numbers.proofs.Bits.{bit-xor, inside-zero, covered, inside-to, inside-digits, inside-from}
 
 -- ---- a term's truth, by the lowest input and the rest
-
--- the lowest input's literal in the polarity w is true at p
-unfoldable pub lowest : ℕ → ℕ → Bool
-lowest w p = eqb (bitXor p w % 2) 1
 
 pub holds-even : (s w p : ℕ) → holds (s * 2) w p ≡ holds s (w / 2) (p / 2)
 unfolding holds covered
@@ -43,6 +40,11 @@ lowest-once w q c =
     go zero h = refl
     go (suc zero) h = xor-zero-r c
     go (suc (suc x)) h = absurd (omega arith)
+
+-- of a polarity only the bits at the term count
+pub holds-shown : (t w w′ p : ℕ) → bitAnd t w ≡ bitAnd t w′ → holds t w p ≡ holds t w′ p
+unfolding holds inside
+holds-shown t w w′ p e = ap (λ (x : ℕ). eqb x t) (and-xor t p w ∙ ap (bitXor (bitAnd t p)) e ∙ sym (and-xor t p w′))
 
 -- ---- in words
 

@@ -1,24 +1,35 @@
 -- The value of an expansion: linear in its coefficients, by the lowest input and the rest, and unique for every assignment of polarities
 -- to terms (`value-unique`).
 use mathlib.Core.Path.{_≡_, refl, sym, ap, ap₂, _∙_}
+use mathlib.Core.Bool.{Bool}
 use Prim.Native.Nat.{ℕ, zero, suc, _+_, _*_, _/_, _^_, _<_}
+use native.Mathlib.Decide.{ℕ-discrete}
 use native.Mathlib.Omega.{arith}
-use lib.Bits.{bitXor, xor-zero-r, xor-self}
+use lib.Bits.{bitAnd, bitXor, xor-zero-r, xor-self}
 use lib.Arith.{lt-one}
 use lib.Dec.{lit<}
 use Rattle.numbers.specs.Sums.{foldBelow}
 use Rattle.numbers.specs.Bits.{inside}
-use Rattle.algebra.specs.Terms.{holds, value}
+use Rattle.algebra.specs.Terms.{holds, lowest, value}
 use Rattle.numbers.specs.Tests.{only}
 use Rattle.numbers.proofs.Xor.{xor-eq}
 use Rattle.numbers.proofs.Sums.{fold-ext, xor-swap, xor-zero, xor-op, xor-split, xor-only-map, below-split}
-use Rattle.algebra.proofs.Terms.{lowest, holds-even, holds-odd, lowest-once}
+use Rattle.algebra.proofs.Terms.{holds-even, holds-odd, holds-shown, lowest-once}
 use Rattle.numbers.proofs.Tests.{only-and-r, only-xor, only-zero}
 
 -- only the coefficients below 2 ^ n count
 pub value-ext : (n : ℕ) (pol c d : ℕ → ℕ) (p : ℕ) → ((t : ℕ) → t < 2 ^ n → c t ≡ d t) → value n pol c p ≡ value n pol d p
 unfolding value
 value-ext n pol c d p e = fold-ext bitXor (2 ^ n) _ _ (λ t l. ap (only (holds t (pol t) p)) (e t l))
+
+-- and of a polarity only the bits at a term that has one
+pub value-shown : (n : ℕ) (w w′ c : ℕ → ℕ) → ((t : ℕ) → t < 2 ^ n → (c t ≡ 0 → ⊥) → bitAnd t (w t) ≡ bitAnd t (w′ t))
+    → (p : ℕ) → value n w c p ≡ value n w′ c p
+unfolding value
+value-shown n w w′ c e p = fold-ext bitXor (2 ^ n) _ _ (λ t h. go t h (ℕ-discrete (c t) 0)) where
+  go : (t : ℕ) → t < 2 ^ n → Dec (c t ≡ 0) → only (holds t (w t) p) (c t) ≡ only (holds t (w′ t) p) (c t)
+  go t h (yes z) = rw z (only-zero (holds t (w t) p) ∙ sym (only-zero (holds t (w′ t) p)))
+  go t h (no z) = ap (λ (b : Bool). only b (c t)) (holds-shown t (w t) (w′ t) p (e t h z))
 
 pub value-xor : (n : ℕ) (pol c d : ℕ → ℕ) (p : ℕ) → value n pol (λ t. bitXor (c t) (d t)) p ≡ bitXor (value n pol c p) (value n pol d p)
 unfolding value
@@ -47,7 +58,7 @@ unfolding value
 value-step n pol c p = xor-split n _ ∙ simp (holds-even, holds-odd, only-and-r)
 
 -- the terms with the lowest input are what the two points that differ in it only differ by
-value-pair : (n : ℕ) (pol c : ℕ → ℕ) (q : ℕ)
+pub value-pair : (n : ℕ) (pol c : ℕ → ℕ) (q : ℕ)
     → bitXor (value (suc n) pol c (q * 2)) (value (suc n) pol c (q * 2 + 1)) ≡ value n (λ s. pol (s * 2 + 1) / 2) (λ s. c (s * 2 + 1)) q
 value-pair n pol c q =
     let h : q * 2 / 2 ≡ q = omega arith in

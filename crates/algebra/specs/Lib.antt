@@ -1,5 +1,6 @@
 pub mod Terms
 pub mod Coefficients
+pub mod Expand
 pub mod Transform
 pub mod Calls
 pub mod inner

@@ -10,8 +10,9 @@ use lib.Arith.{bin-ind}
 use lib.Count.{onesIn, ones, ones-step}
 use lib.Pow.{pow-mono, suc-ones}
 use Rattle.numbers.specs.Sums.{foldBelow, sumBelow}
-use Rattle.algebra.specs.Coefficients.{coefficient}
 use Rattle.numbers.proofs.Sums.{fold-zero, fold-ext, fold-map, fold-op, fold-split}
+use Rattle.expansions.specs.declared.kinds.Class.{Class}
+use Rattle.expansions.specs.Classes.{placeCoefficient}
 use Rattle.expansions.specs.Members.{block, place}
 use Rattle.expansions.specs.declared.families.Family.{Family}
 use Rattle.expansions.specs.Costs.{counted, products, literals}
@@ -183,14 +184,14 @@ module _ (R : Rule) where
       (ap (λ (l : ℕ). counted (c 0) (weight R l)) ones-zero) refl (λ t. refl)
 
   -- the prices of the member's coefficients, by blocks
-  pub priced-blocks : (n k : ℕ) (f : ℕ → ℕ) (M i : ℕ) (φ : ℕ → ℕ) → onesIn n M ≡ k
-      → priced R n (memberCoefficient n k f M i φ) ≡ sumBelow (2 ^ (n - k)) (λ j. blockCharge R n k f M i j (φ j))
+  pub priced-blocks : (C : Class) (n k : ℕ) (f : ℕ → ℕ) (M i : ℕ) (x : ℕ → ℕ) → onesIn n M ≡ k
+      → priced R n (memberCoefficient C n k f M i x) ≡ sumBelow (2 ^ (n - k)) (λ j. blockCharge C R n k f M i j (x j))
   unfolding priced memberCoefficient blockCharge
-  priced-blocks n k f M i φ size =
+  priced-blocks C n k f M i x size =
       fold-ext _+_ (2 ^ n) _ (λ t. summand (block n M t) (place n M t))
-      (λ t h. ap (λ (l : ℕ). price R l (memberCoefficient n k f M i φ t)) (ones-parts n M t h))
+      (λ t h. ap (λ (l : ℕ). price R l (memberCoefficient C n k f M i x t)) (ones-parts n M t h))
       ∙ sums _+_ add-assoc add-comm add-zero n M summand
       ∙ rw (ones-others n k M size, size)
     where
       summand : ℕ → ℕ → ℕ
-      summand j r = price R (ones j + ones r) (coefficient k (φ j) (blockFunction n k f M i j) r)
+      summand j r = price R (ones j + ones r) (placeCoefficient C k (x j) (blockFunction n k f M i j) r)

@@ -14,6 +14,7 @@ use Rattle.numbers.proofs.Tests.{only-zero}
 use Rattle.algebra.specs.Terms.{holds, value}
 use Rattle.algebra.proofs.Terms.{holds-zero}
 use Rattle.algebra.proofs.Value.{value-ext, value-xor}
+use Rattle.expansions.specs.declared.kinds.Class.{Class}
 use Rattle.expansions.specs.Members.{polarity, Member, Gives}
 use Rattle.expansions.specs.Costs.{counted}
 use Rattle.expansions.specs.Rules.{Rule, weight}
@@ -61,13 +62,13 @@ without-ext n c d e (suc t) h = e (suc t) h
 
 -- ---- a member with a mask
 
-module _ (n k v M i : ℕ) (φ : ℕ → ℕ) (member : Member n k M i φ) (f c : ℕ → ℕ) (gives : Gives n v M i φ c f) where
+module _ (C : Class) (n k v M i : ℕ) (x : ℕ → ℕ) (member : Member C n k M i x) (f c : ℕ → ℕ) (gives : Gives n v (polarity C n k M i x) c f) where
   e : ℕ → ℕ
-  e = memberCoefficient n k f M i φ
+  e = memberCoefficient C n k f M i x
 
-  pub gives-unique : (t : ℕ) → t < 2 ^ n → bitXor (c t) (constant v t) ≡ memberCoefficient n k f M i φ t
+  pub gives-unique : (t : ℕ) → t < 2 ^ n → bitXor (c t) (constant v t) ≡ memberCoefficient C n k f M i x t
   gives-unique =
-      member-unique n k M i φ member f (λ t. bitXor (c t) (constant v t)) (λ p l. value-inverted n (polarity n M i φ) c v p ∙ gives p l)
+      member-unique C n k M i x member f (λ t. bitXor (c t) (constant v t)) (λ p l. value-inverted n (polarity C n k M i x) c v p ∙ gives p l)
 
   rival-constant : bitXor (c 0) v ≡ e 0
   unfolding constant e
@@ -79,10 +80,10 @@ module _ (n k v M i : ℕ) (φ : ℕ → ℕ) (member : Member n k M i φ) (f c 
   rival-others (suc t) h = sym (gives-unique (suc t) h) ∙ xor-zero-r (c (suc t))
 
   pub rival-step : (R : Rule) → 0 < R .product
-      → LeastThen (charge R n (withoutConstant (memberCoefficient n k f M i φ))) (charge R n c) (memberCoefficient n k f M i φ 0 ≡ v)
+      → LeastThen (charge R n (withoutConstant (memberCoefficient C n k f M i x))) (charge R n c) (memberCoefficient C n k f M i x 0 ≡ v)
   unfolding counted e
   rival-step R some = rw (charge-ext R n _ _ rival-others, charge-apart R n c) (go (c 0) rival-constant)
     where
       go : (y : ℕ) → bitXor y v ≡ e 0 → LeastThen (charge R n (withoutConstant c)) (charge R n (withoutConstant c) + counted y (weight R 0)) (e 0 ≡ v)
-      go zero x = inr (omega arith, sym x ∙ xor-zero-l v)
-      go (suc y) x = inl (omega (arith, some, weight-product R 0))
+      go zero z = inr (omega arith, sym z ∙ xor-zero-l v)
+      go (suc y) z = inl (omega (arith, some, weight-product R 0))

@@ -44,6 +44,11 @@ pub then-map : {P Q : Type 0} (a b : ℕ) → (P → Q) → LeastThen a b P → 
 then-map a b f (inl h) = inl h
 then-map a b f (inr h) = inr (h .0, f (h .1))
 
+-- where the first numbers are equal, the rest may use it
+pub then-given : {P Q : Type 0} (a b : ℕ) → (a ≡ b → P → Q) → LeastThen a b P → LeastThen a b Q
+then-given a b f (inl h) = inl h
+then-given a b f (inr h) = inr (h .0, f (h .0) (h .1))
+
 -- each way round: the first numbers are equal, and the rest holds each way round
 pub then-antisym : {P Q : Type 0} (a b : ℕ) → LeastThen a b P → LeastThen b a Q → (a ≡ b) × P × Q
 then-antisym a b (inl h) y = absurd (omega (arith, then-le b a y))

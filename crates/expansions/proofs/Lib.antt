@@ -3,8 +3,12 @@ pub mod Ascending
 pub mod Masks
 pub mod ClosedUp
 pub mod Least
+pub mod Classes
 pub mod Blocks
 pub mod Polarities
+pub mod Shown
+pub mod Members
+pub mod ShownChoices
 pub mod Lowest
 pub mod Counted
 pub mod Rules
@@ -12,9 +16,13 @@ pub mod Costs
 pub mod Inverters
 pub mod Minimal
 pub mod Answers
+pub mod FreeAnswers
 pub mod Charges
 pub mod SmallSums
 pub mod BlockTable
+pub mod BlockCharges
 pub mod kronecker
 pub mod Rivals
+pub mod Wider
+pub mod Alike
 pub mod Outputs

@@ -15,13 +15,15 @@ use Rattle.algebra.specs.Terms.{value}
 use Rattle.algebra.proofs.Value.{value-map}
 use Rattle.expansions.specs.declared.families.Family.{Family}
 use Rattle.expansions.specs.declared.kinds.Kind.{Kind}
-use Rattle.expansions.specs.declared.kinds.Kind.the-variants.{Block}
-use Rattle.expansions.specs.Members.{polarity, Gives}
+use Rattle.expansions.specs.declared.kinds.Kind.the-variants.{Mixed}
+use Rattle.expansions.specs.declared.kinds.Class.{Class}
+use Rattle.expansions.specs.Classes.{mostMixed}
+use Rattle.expansions.specs.Members.{Gives}
 use Rattle.expansions.specs.Costs.{counted, products, literals}
 use Rattle.expansions.specs.Rules.{NoDearer}
 use Rattle.expansions.specs.Answers.{Minimal}
 use Rattle.expansions.specs.kronecker.Costs.{kroneckerLiterals}
-use Rattle.expansions.specs.Rivals.{Rival, block, kronecker, LeastCost}
+use Rattle.expansions.specs.Rivals.{Rival, mixed, kronecker, LeastCost}
 use Rattle.expansions.specs.Outputs.{IsChoice, chosenCount, chosenOutputs, chosenTable, RivalWithin, FewerOutputs}
 use Rattle.expansions.proofs.Split.{gather-lt, gather-zero, ones-size}
 use Rattle.expansions.proofs.Blocks.{gather-xor}
@@ -51,17 +53,16 @@ module _ (h : ℕ → ℕ) (none : h 0 ≡ 0) (both : (a b : ℕ) → h (bitXor 
   kronecker-literals-fewer n letters c = sum-fewer (2 ^ n) c _
 
   -- the mask is mapped like the coefficients
-  gives-map : (n v M i : ℕ) (φ c f : ℕ → ℕ) → Gives n v M i φ c f → Gives n (h v) M i φ (λ t. h (c t)) (λ q. h (f q))
-  gives-map n v M i φ c f gives p l =
-      ap (λ (y : ℕ). bitXor y (h v)) (sym (value-map h none both n (polarity n M i φ) c p))
-      ∙ sym (both (value n (polarity n M i φ) c p) v) ∙ ap h (gives p l)
+  gives-map : (n v : ℕ) (w c f : ℕ → ℕ) → Gives n v w c f → Gives n (h v) w (λ t. h (c t)) (λ q. h (f q))
+  gives-map n v w c f gives p l =
+      ap (λ (y : ℕ). bitXor y (h v)) (sym (value-map h none both n w c p)) ∙ sym (both (value n w c p) v) ∙ ap h (gives p l)
 
   pub rival-map : (n : ℕ) (f : ℕ → ℕ) (kind : Kind) (p l : ℕ) → Rival n f kind p l → RivalWithin n (λ q. h (f q)) kind p l
-  rival-map n f _ _ _ (block k v M i φ c member gives) =
+  rival-map n f _ _ _ (mixed C k v M i w c in-class gives) =
       record {
         products = products n (λ t. h (c t));
         literals = literals n (λ t. h (c t));
-        rival = block k (h v) M i φ (λ t. h (c t)) member (gives-map n v M i φ c f gives);
+        rival = mixed C k (h v) M i w (λ t. h (c t)) in-class (gives-map n v w c f gives);
         products-within = products-fewer n c;
         literals-within = literals-fewer n c;
       }
@@ -110,7 +111,9 @@ fewer-outputs n m F kind f s choice =
     }
 
 -- what the minimising call states of a table and of chosen outputs of it
-pub minimal-fewer : (F : Family) (n m k : ℕ) (f : ℕ → ℕ) (s : ℕ) → IsChoice m s → (v M i : ℕ) (φ c : ℕ → ℕ) (p l : ℕ) → Minimal F n k f v M i φ c p l
-    → (v′ M′ i′ : ℕ) (φ′ c′ : ℕ → ℕ) (p′ l′ : ℕ) → Minimal F n k (λ q. chosenOutputs m s (f q)) v′ M′ i′ φ′ c′ p′ l′ → NoDearer F p′ l′ p l
-minimal-fewer F n m k f s choice v M i φ c p l whole v′ M′ i′ φ′ c′ p′ l′ chosen =
-    fewer-outputs n m F (Block k) f s choice .no-dearer p l p′ l′ (minimal-least F n k f v M i φ c p l whole) (minimal-least F n k _ v′ M′ i′ φ′ c′ p′ l′ chosen)
+pub minimal-fewer : (C : Class) (F : Family) (n m k : ℕ) (f : ℕ → ℕ) (s : ℕ) → k ≤ mostMixed C → IsChoice m s
+    → (v M i : ℕ) (x c : ℕ → ℕ) (p l : ℕ) → Minimal C F n k f v M i x c p l
+    → (v′ M′ i′ : ℕ) (x′ c′ : ℕ → ℕ) (p′ l′ : ℕ) → Minimal C F n k (λ q. chosenOutputs m s (f q)) v′ M′ i′ x′ c′ p′ l′ → NoDearer F p′ l′ p l
+minimal-fewer C F n m k f s few choice v M i x c p l whole v′ M′ i′ x′ c′ p′ l′ chosen =
+    fewer-outputs n m F (Mixed C k) f s choice .no-dearer p l p′ l′ (minimal-least C F n k f few v M i x c p l whole)
+    (minimal-least C F n k _ few v′ M′ i′ x′ c′ p′ l′ chosen)

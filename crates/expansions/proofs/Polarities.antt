@@ -8,6 +8,8 @@ use lib.Bits.{bitAnd, and-step, and-le-l}
 use Rattle.numbers.proofs.Ands.{and-half, and-low}
 use Rattle.numbers.proofs.Xor.{low-lt}
 use Rattle.expansions.specs.Split.{putDigit, gather, outside, join}
+use Rattle.expansions.specs.declared.kinds.Class.{Class}
+use Rattle.expansions.specs.Classes.{placePolarity}
 use Rattle.expansions.specs.Members.{block, place, polarity, Member}
 use Rattle.expansions.proofs.Split.{join-gather}
 use Rattle.expansions.proofs.Blocks.{polarity-outside, polarity-inside}
@@ -31,22 +33,22 @@ parts-equal n M x y hx hy o p = sym (join-gather n M x hx) ∙ ap₂ (join n M) 
 
 -- ---- what a term shows of a member's polarities
 
-module _ (n k M i : ℕ) (φ : ℕ → ℕ) (member : Member n k M i φ) (t : ℕ) where
+module _ (C : Class) (n k M i : ℕ) (x : ℕ → ℕ) (member : Member C n k M i x) (t : ℕ) where
   -- outside M what it shows of i
-  block-shown : block n M (bitAnd t (polarity n M i φ t)) ≡ bitAnd (block n M t) (block n M i)
-  block-shown = gather-and n (outside n M) t (polarity n M i φ t) ∙ ap (bitAnd (block n M t)) (polarity-outside n k M i φ member t)
+  block-shown : block n M (bitAnd t (polarity C n k M i x t)) ≡ bitAnd (block n M t) (block n M i)
+  block-shown = gather-and n (outside n M) t (polarity C n k M i x t) ∙ ap (bitAnd (block n M t)) (polarity-outside C n k M i x member t)
 
-  -- in M what its place shows of the polarity of its block
-  pub place-shown : place n M (bitAnd t (polarity n M i φ t)) ≡ bitAnd (place n M t) (φ (block n M t))
-  place-shown = gather-and n M t (polarity n M i φ t) ∙ ap (bitAnd (place n M t)) (polarity-inside n k M i φ member t)
+  -- in M what its place shows of the polarity that it has under the choice of its block
+  pub place-shown : place n M (bitAnd t (polarity C n k M i x t)) ≡ bitAnd (place n M t) (placePolarity C k (x (block n M t)) (place n M t))
+  place-shown = gather-and n M t (polarity C n k M i x t) ∙ ap (bitAnd (place n M t)) (polarity-inside C n k M i x member t)
 
-pub polarity-shown : (n k M i : ℕ) (φ φ′ : ℕ → ℕ) → Member n k M i φ → Member n k M i φ′ → (t : ℕ) → t < 2 ^ n
-    → bitAnd (place n M t) (φ (block n M t)) ≡ bitAnd (place n M t) (φ′ (block n M t))
-    → bitAnd t (polarity n M i φ t) ≡ bitAnd t (polarity n M i φ′ t)
-polarity-shown n k M i φ φ′ member member′ t h e =
-    parts-equal n M (bitAnd t (polarity n M i φ t)) (bitAnd t (polarity n M i φ′ t)) (small φ) (small φ′)
-    (block-shown n k M i φ member t ∙ sym (block-shown n k M i φ′ member′ t))
-    (place-shown n k M i φ member t ∙ e ∙ sym (place-shown n k M i φ′ member′ t))
+pub polarity-shown : (C : Class) (n k M i : ℕ) (x x′ : ℕ → ℕ) → Member C n k M i x → Member C n k M i x′ → (t : ℕ) → t < 2 ^ n
+    → bitAnd (place n M t) (placePolarity C k (x (block n M t)) (place n M t)) ≡ bitAnd (place n M t) (placePolarity C k (x′ (block n M t)) (place n M t))
+    → bitAnd t (polarity C n k M i x t) ≡ bitAnd t (polarity C n k M i x′ t)
+polarity-shown C n k M i x x′ member member′ t h e =
+    parts-equal n M (bitAnd t (polarity C n k M i x t)) (bitAnd t (polarity C n k M i x′ t)) (small x) (small x′)
+    (block-shown C n k M i x member t ∙ sym (block-shown C n k M i x′ member′ t))
+    (place-shown C n k M i x member t ∙ e ∙ sym (place-shown C n k M i x′ member′ t))
   where
-    small : (ψ : ℕ → ℕ) → bitAnd t (polarity n M i ψ t) < 2 ^ n
-    small ψ = omega (arith, and-le-l t (polarity n M i ψ t))
+    small : (y : ℕ → ℕ) → bitAnd t (polarity C n k M i y t) < 2 ^ n
+    small y = omega (arith, and-le-l t (polarity C n k M i y t))

@@ -1,7 +1,7 @@
 -- A small sum, 16 for each product of a byte of terms and 1 for each literal, is at most 140 (`smallSum-le`) and stands for the byte's charge
 -- under any rule, with any literals outside the mixed set (`usedCharge-sum`). A byte of fewer products has at most four literals more
 -- (`literals-apart`), so that under a rule by which a product weighs more than four literals a lesser sum stands for a lesser charge
--- (`usedCharge-lt`), and the first least of the polarities by their small sums is the first least by their charges (`leastPolarity-sums`).
+-- (`usedCharge-lt`), and the first least of the choices by their small sums is the first least by their charges (`leastChoice-sums`).
 use mathlib.Core.Path.{_≡_, refl, sym, ap, ap₂, _∙_}
 use Prim.Native.Nat.{ℕ, zero, suc, _+_, _*_, _/_, _%_, _^_, _≤_, _<_}
 use native.Mathlib.Nat.{mul-add, add-mul, mul-assoc, mul-comm, mul-le-mul, mul-le-mul-right, suc-mul, one-mul, mul-one, le-of-suc-le-suc}
@@ -15,10 +15,10 @@ use Rattle.numbers.proofs.Sums.{fold-ext}
 use Rattle.numbers.proofs.Bits.{bit-lt}
 use Rattle.numbers.proofs.Pack.{ones-bits}
 use Rattle.expansions.specs.Rules.{Rule, weight}
-use Rattle.expansions.specs.Answers.{leastPolarity}
+use Rattle.expansions.specs.Answers.{leastChoice}
 use Rattle.expansions.specs.inner.Charges.{literalCounts, literalCount, byteCharge, usedCharge, sumTo, smallSum, sumCharge}
 use Rattle.expansions.proofs.Costs.{sum-mono, sum-scaled, sum-digits}
-use Rattle.expansions.proofs.Minimal.{polarity-first, leastPolarity-alike}
+use Rattle.expansions.proofs.Minimal.{choice-first, leastChoice-alike}
 use Rattle.expansions.proofs.Rules.{OutweighsFour, weight-product}
 use Rattle.expansions.proofs.Charges.{literalCount-le}
 
@@ -123,44 +123,44 @@ module _ (R : Rule) (more : ℕ) where
           let fewer : literalsOf u < literalsOf v = omega (arith, smallSum-parts u hu, smallSum-parts v hv) in
           omega (arith, outweighs .some, ap (λ (x : ℕ). x * weight R more) same, mul-le-mul-right (R .literal) fewer, suc-mul (literalsOf u) (R .literal))
 
--- ---- the first least polarity
+-- ---- the first least choice
 
 -- 256 times each charge
-pub leastPolarity-scaled : (k : ℕ) (g : ℕ → ℕ) → leastPolarity k g ≡ leastPolarity k (λ φ. g φ * 256 + 0)
-leastPolarity-scaled k g = leastPolarity-alike k g (λ φ. g φ * 256 + 0) (λ φ ψ h l c. omega arith) (λ φ ψ h l c. omega arith)
+pub leastChoice-scaled : (N : ℕ) → 0 < N → (g : ℕ → ℕ) → leastChoice N g ≡ leastChoice N (λ x. g x * 256 + 0)
+leastChoice-scaled N some g = leastChoice-alike N some g (λ x. g x * 256 + 0) (λ x y h l c. omega arith) (λ x y h l c. omega arith)
 
 -- with a mask below each sum
-module _ (R : Rule) (outweighs : OutweighsFour R) (k more : ℕ) (sums used masks : ℕ → ℕ) (bytes : (φ : ℕ) → φ < 2 ^ k → used φ < 2 ^ 8)
-    (e : (φ : ℕ) → φ < 2 ^ k → sums φ ≡ smallSum (used φ)) (small : (φ : ℕ) → φ < 2 ^ k → masks φ < 256) where
+module _ (R : Rule) (outweighs : OutweighsFour R) (N more : ℕ) (some : 0 < N) (sums used masks : ℕ → ℕ) (bytes : (x : ℕ) → x < N → used x < 2 ^ 8)
+    (e : (x : ℕ) → x < N → sums x ≡ smallSum (used x)) (small : (x : ℕ) → x < N → masks x < 256) where
   abbrev pub summed : ℕ → ℕ
-  summed φ = sums φ * 256 + masks φ
+  summed x = sums x * 256 + masks x
 
   abbrev pub charged : ℕ → ℕ
-  charged φ = usedCharge R more (used φ) * 256 + masks φ
+  charged x = usedCharge R more (used x) * 256 + masks x
 
-  pub stands-for : (φ : ℕ) → φ < 2 ^ k → sumCharge R more (sums φ) ≡ usedCharge R more (used φ)
-  stands-for φ h = ap (sumCharge R more) (e φ h) ∙ sym (usedCharge-sum R more (used φ) (bytes φ h))
+  pub stands-for : (x : ℕ) → x < N → sumCharge R more (sums x) ≡ usedCharge R more (used x)
+  stands-for x h = ap (sumCharge R more) (e x h) ∙ sym (usedCharge-sum R more (used x) (bytes x h))
 
-  same-charge : (φ ψ : ℕ) → φ < 2 ^ k → ψ < 2 ^ k → sums φ ≡ sums ψ → usedCharge R more (used φ) ≡ usedCharge R more (used ψ)
-  same-charge φ ψ h l c = sym (stands-for φ h) ∙ ap (sumCharge R more) c ∙ stands-for ψ l
+  same-charge : (x y : ℕ) → x < N → y < N → sums x ≡ sums y → usedCharge R more (used x) ≡ usedCharge R more (used y)
+  same-charge x y h l c = sym (stands-for x h) ∙ ap (sumCharge R more) c ∙ stands-for y l
 
-  charged-lt : (φ ψ : ℕ) → φ < 2 ^ k → ψ < 2 ^ k → summed φ < summed ψ → charged φ < charged ψ
-  charged-lt φ ψ h l c = go (decLt (sums φ) (sums ψ))
+  charged-lt : (x y : ℕ) → x < N → y < N → summed x < summed y → charged x < charged y
+  charged-lt x y h l c = go (decLt (sums x) (sums y))
     where
-      go : Dec (sums φ < sums ψ) → charged φ < charged ψ
-      go (yes d) = omega (arith, small φ h, usedCharge-lt R more outweighs (used φ) (used ψ) (bytes φ h) (bytes ψ l) (rw (← (e φ h), ← (e ψ l)) d))
-      go (no d) = omega (arith, same-charge φ ψ h l (omega (arith, small ψ l)))
+      go : Dec (sums x < sums y) → charged x < charged y
+      go (yes d) = omega (arith, small x h, usedCharge-lt R more outweighs (used x) (used y) (bytes x h) (bytes y l) (rw (← (e x h), ← (e y l)) d))
+      go (no d) = omega (arith, same-charge x y h l (omega (arith, small y l)))
 
-  pub leastPolarity-sums : leastPolarity k summed ≡ leastPolarity k charged
-  leastPolarity-sums =
-      leastPolarity-alike k summed charged charged-lt
-      (λ φ ψ h l c. omega (arith, same-charge φ ψ h l (omega (arith, small φ h, small ψ l)), small φ h, small ψ l))
+  pub leastChoice-sums : leastChoice N summed ≡ leastChoice N charged
+  leastChoice-sums =
+      leastChoice-alike N some summed charged charged-lt
+      (λ x y h l c. omega (arith, same-charge x y h l (omega (arith, small x h, small y l)), small x h, small y l))
 
   -- and the charge under it
-  pub sumCharge-least : sumCharge R more (summed (leastPolarity k summed) / 256) * 256 + summed (leastPolarity k summed) % 256 ≡ charged (leastPolarity k charged)
+  pub sumCharge-least : sumCharge R more (summed (leastChoice N summed) / 256) * 256 + summed (leastChoice N summed) % 256 ≡ charged (leastChoice N charged)
   sumCharge-least =
-      let φ : ℕ = leastPolarity k summed in
-      let h : φ < 2 ^ k = polarity-first k summed .below in
-      ap₂ (λ (x y : ℕ). sumCharge R more x * 256 + y) (digits-div (sums φ) (small φ h)) (digits-mod (sums φ) (small φ h))
-      ∙ ap (λ (x : ℕ). x * 256 + masks φ) (stands-for φ h)
-      ∙ ap charged leastPolarity-sums
+      let x : ℕ = leastChoice N summed in
+      let h : x < N = choice-first N some summed .below in
+      ap₂ (λ (a b : ℕ). sumCharge R more a * 256 + b) (digits-div (sums x) (small x h)) (digits-mod (sums x) (small x h))
+      ∙ ap (λ (a : ℕ). a * 256 + masks x) (stands-for x h)
+      ∙ ap charged leastChoice-sums

@@ -1,12 +1,14 @@
 pub mod Split
 pub mod ClosedUp
+pub mod Costs
+pub mod Classes
 pub mod Members
 pub mod Rules
-pub mod Costs
 pub mod Least
 pub mod Answers
 pub mod BlockTable
 pub mod kronecker
 pub mod inner
 pub mod Rivals
+pub mod Wider
 pub mod Outputs

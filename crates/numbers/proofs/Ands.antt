@@ -98,6 +98,24 @@ and-assoc =
       and-low b c,
     ))
 
+max-assoc : (x y z : ℕ) → max (max x y) z ≡ max x (max y z)
+max-assoc x y z = omega arith
+
+pub or-assoc : (a b c : ℕ) → bitOr (bitOr a b) c ≡ bitOr a (bitOr b c)
+or-assoc =
+    bin-ind (λ (a : ℕ). (b c : ℕ) → bitOr (bitOr a b) c ≡ bitOr a (bitOr b c)) (λ b c. refl)
+    (λ a ih b c.
+    cc (
+      or-step (bitOr a b) c,
+      or-half a b,
+      or-low a b,
+      ih (b / 2) (c / 2),
+      max-assoc (a % 2) (b % 2) (c % 2),
+      or-step a (bitOr b c),
+      or-half b c,
+      or-low b c,
+    ))
+
 pub and-again : (a b : ℕ) → bitAnd a (bitAnd a b) ≡ bitAnd a b
 and-again a b = sym (and-assoc a a b) ∙ ap (λ (x : ℕ). bitAnd x b) (and-self a)
 

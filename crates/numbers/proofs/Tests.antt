@@ -2,12 +2,12 @@
 -- (`every-to`, `every-from`), and a number by a test.
 use mathlib.Core.Path.{_≡_, refl, sym, subst, _∙_}
 use mathlib.Core.Bool.{Bool, true, false, _&&_, _||_, true≢false, false≢true}
-use Prim.Native.Nat.{ℕ, zero, suc, _<_}
+use Prim.Native.Nat.{ℕ, zero, suc, _≤_, _<_}
 use native.Mathlib.Decide.{ℕ-discrete}
 use native.Mathlib.Nat.{not-suc-le-zero}
 use native.Mathlib.Omega.{arith}
 use lib.Bits.{bitXor}
-use lib.Dec.{eqb, T, eqb→eq, eqb-refl}
+use lib.Dec.{eqb, ltb, T, eqb→eq, eqb-refl, lt→ltb, ltb→lt}
 use Rattle.numbers.specs.Tests.{only, every}
 
 -- ---- tests
@@ -113,3 +113,30 @@ pub only-closed : (P : ℕ → Type 0) → P 0 → (a : Bool) (c : ℕ) → P c 
 unfolding only
 only-closed P z true c p = p
 only-closed P z false c p = z
+
+-- ---- numbers below a bound, and 0 from it on
+
+pub only-below : (j N x : ℕ) → j < N → only (ltb j N) x ≡ x
+unfolding only
+only-below j N x h = go (ltb j N) (lt→ltb j N h)
+  where
+    go : (b : Bool) → T b → only b x ≡ x
+    go true t = refl
+    go false t = absurd t
+
+pub only-above : (j N x : ℕ) → N ≤ j → only (ltb j N) x ≡ 0
+unfolding only
+only-above j N x h = go (ltb j N) refl
+  where
+    go : (b : Bool) → ltb j N ≡ b → only b x ≡ 0
+    go true e = absurd (omega (arith, ltb→lt j N (subst T (sym e) tt)))
+    go false e = refl
+
+-- only the values below N count
+pub only-ext : (j N x y : ℕ) → (j < N → x ≡ y) → only (ltb j N) x ≡ only (ltb j N) y
+unfolding only
+only-ext j N x y e = go (ltb j N) refl
+  where
+    go : (b : Bool) → ltb j N ≡ b → only b x ≡ only b y
+    go true t = e (ltb→lt j N (subst T (sym t) tt))
+    go false t = refl

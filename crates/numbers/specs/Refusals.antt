@@ -23,17 +23,17 @@ unlessRefused (suc x) filled before = before
 unfoldable pub tableRefusal : ℕ → ℕ → ℕ
 tableRefusal n m = unless (leb 1 n && leb n 8) 2 (unless (leb 1 m && leb m 8) 3 0)
 
--- and "4. k is above 3 or above n."
-unfoldable pub sizesRefusal : ℕ → ℕ → ℕ → ℕ
-sizesRefusal n m k = orElse (tableRefusal n m) (unless (leb k 3 && leb k n) 4 0)
+-- and "4. k is above 3 or above n.": `most` is the 3, and for document 02's free class, W-207, a 2: "`f` with a digit above 2 or above n is refusal 4"
+unfoldable pub sizesRefusal : (n m most k : ℕ) → ℕ
+sizesRefusal n m most k = orElse (tableRefusal n m) (unless (leb k most && leb k n) 4 0)
 
 -- the sizes of a table that are not refused (proofs/refusals/Judging, `table-none`, `table-accepted`)
 pub record TableSized (n m : ℕ) : Type 0 where
   pub inputs : (1 ≤ n) × (n ≤ 8)
   pub outputs : (1 ≤ m) × (m ≤ 8)
 
--- the sizes of a table and its mixed inputs that are not refused (`sizes-none`, `sizes-accepted`)
-pub record Sized (n m k : ℕ) : Type 0 where
+-- the sizes of a table and its mixed inputs, of which there may be `most`, that are not refused (`sizes-none`, `sizes-accepted`)
+pub record Sized (n m most k : ℕ) : Type 0 where
   pub inputs : (1 ≤ n) × (n ≤ 8)
   pub outputs : (1 ≤ m) × (m ≤ 8)
-  pub mixed : (k ≤ 3) × (k ≤ n)
+  pub mixed : (k ≤ most) × (k ≤ n)

@@ -10,7 +10,7 @@ pub const MOST_INPUTS: usize = 8;
 // The most outputs.
 pub const MOST_OUTPUTS: usize = 8;
 
-// The most mixed inputs; there are at most n.
+// The most mixed inputs of document 01's class; there are at most n.
 pub const MOST_MIXED: usize = 3;
 
 // The refusal of the sizes of a table: 2 where n is not 1 to 8, 3 where m is not, and 0 where both are.
@@ -32,15 +32,15 @@ pub fn judge_table(n: usize, m: usize) -> usize
     0
 }
 
-// The refusal of the sizes of a design: that of its table, then 4 where k is above 3 or above n.
-pub fn judge_sizes(n: usize, m: usize, k: usize) -> usize
-    ensures { λ r. ⌜ r ≡ sizesRefusal n m k ⌝ }
+// The refusal of the sizes of a design: that of its table, then 4 where k is above the most mixed inputs of its class or above n.
+pub fn judge_sizes(n: usize, m: usize, most: usize, k: usize) -> usize
+    ensures { λ r. ⌜ r ≡ sizesRefusal n m most k ⌝ }
 {
     let number = judge_table(n, m);
     if number != 0 {
         return number;
     }
-    if MOST_MIXED < k {
+    if most < k {
         return 4;
     }
     if n < k {

@@ -13,7 +13,7 @@ use Rattle.expansions.specs.Costs.{products}
 use Rattle.expansions.specs.Rules.{NoDearer}
 use Rattle.expansions.specs.Least.{LeastThen, chosen}
 use Rattle.expansions.proofs.Least.{then-le, then-rest, then-map, then-antisym, then-digits, IsFirst, chosen-is, firstLeast-ext}
-use Rattle.expansions.proofs.Answers.{only-below, only-above, only-ext}
+use Rattle.numbers.proofs.Tests.{only-below, only-above, only-ext}
 use Rattle.expansions.specs.kronecker.Letters.{IsKind, KroneckerGives, lettersOf, kindNumber}
 use Rattle.expansions.specs.kronecker.Steps.{kroneckerCoefficient}
 use Rattle.expansions.specs.kronecker.Costs.{kroneckerLiterals, kroneckerCharge}

@@ -14,7 +14,7 @@ use Rattle.numbers.specs.Bytes.{at, tabulate}
 use Rattle.numbers.specs.Tests.{only}
 use Rattle.numbers.proofs.Bytes.{is-table, Filled, filled-none, filled-more}
 use Rattle.numbers.proofs.Shifts.{one-shifted}
-use Rattle.expansions.proofs.Answers.{only-below, only-above}
+use Rattle.numbers.proofs.Tests.{only-below, only-above}
 use Rattle.expansions.specs.kronecker.Letters.{lettersOf}
 use Rattle.expansions.specs.kronecker.Steps.{kroneckerCoefficient}
 use Rattle.expansions.specs.inner.KroneckerWalk.{Stepped}

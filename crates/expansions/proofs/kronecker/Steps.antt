@@ -13,7 +13,7 @@ use Rattle.numbers.specs.Bits.{bit}
 use Rattle.numbers.specs.Tests.{only}
 use Rattle.numbers.proofs.Bits.{bit-lt, bit-below}
 use Rattle.numbers.proofs.Xor.{xor-cancel-l, xor-cancel-r}
-use Rattle.expansions.proofs.Answers.{only-below, only-above}
+use Rattle.numbers.proofs.Tests.{only-below, only-above}
 use Rattle.expansions.specs.kronecker.Letters.{literalOf, literalTrue, kroneckerValue, KroneckerGives}
 use Rattle.expansions.specs.kronecker.Steps.{stepValue, without, kroneckerStep, kroneckerCoefficient}
 use Rattle.expansions.proofs.kronecker.Halves.{bit-place, bit-top, without-top, without-low, below-halves}

@@ -51,23 +51,23 @@ unfolding tableRefusal
 table-accepted n m s =
     rw (le-leb 1 n (s .inputs .0), le-leb n 8 (s .inputs .1), le-leb 1 m (s .outputs .0), le-leb m 8 (s .outputs .1))
 
-pub sizes-none : (n m k : ℕ) → sizesRefusal n m k ≡ 0 → Sized n m k
+pub sizes-none : (n m most k : ℕ) → sizesRefusal n m most k ≡ 0 → Sized n m most k
 unfolding sizesRefusal
-sizes-none n m k e =
+sizes-none n m most k e =
     let a = or-else-none (tableRefusal n m) _ e in
     let t = table-none n m (a .0) in
-    record { inputs = t .inputs; outputs = t .outputs; mixed = both-le k 3 k n (passed (leb k 3 && leb k n) 3 _ (a .1) .0) }
+    record { inputs = t .inputs; outputs = t .outputs; mixed = both-le k most k n (passed (leb k most && leb k n) 3 _ (a .1) .0) }
 
-pub sizes-accepted : (n m k : ℕ) → Sized n m k → sizesRefusal n m k ≡ 0
+pub sizes-accepted : (n m most k : ℕ) → Sized n m most k → sizesRefusal n m most k ≡ 0
 unfolding sizesRefusal
-sizes-accepted n m k s =
+sizes-accepted n m most k s =
     let t : TableSized n m = record { inputs = s .inputs; outputs = s .outputs } in
-    rw (table-accepted n m t, le-leb k 3 (s .mixed .0), le-leb k n (s .mixed .1))
+    rw (table-accepted n m t, le-leb k most (s .mixed .0), le-leb k n (s .mixed .1))
 
 -- a refusal of sizes is 2, 3 or 4
-pub sizes-most : (n m k : ℕ) → sizesRefusal n m k ≤ 4
+pub sizes-most : (n m most k : ℕ) → sizesRefusal n m most k ≤ 4
 unfolding sizesRefusal tableRefusal
-sizes-most n m k = go (leb 1 n && leb n 8) (leb 1 m && leb m 8) (leb k 3 && leb k n)
+sizes-most n m most k = go (leb 1 n && leb n 8) (leb 1 m && leb m 8) (leb k most && leb k n)
   where
     go : (a b c : Bool) → orElse (unless a 2 (unless b 3 0)) (unless c 4 0) ≤ 4
     go false b c = omega arith

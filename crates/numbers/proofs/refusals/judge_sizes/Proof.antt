@@ -18,19 +18,19 @@ returns-2 : tie.Need-returns-2
 unfolding sizesRefusal
 returns-2 c =
     let b = c .before in
-    sym (or-else-passed _ _ _ (b .before .judge-table .ensures) (b .if1 .left) ∙ rw (lt-leb _ 3 (c .if2 .taken)))
+    sym (or-else-passed _ _ _ (b .before .judge-table .ensures) (b .if1 .left) ∙ rw (lt-leb _ _ (c .if2 .taken)))
 
 returns-3 : tie.Need-returns-3
 unfolding sizesRefusal
 returns-3 c =
     let b = c .before .before in
-    sym (or-else-passed _ _ _ (b .before .judge-table .ensures) (b .if1 .left) ∙ rw (le-leb _ 3 (c .before .if2 .left), lt-leb _ _ (c .if3 .taken)))
+    sym (or-else-passed _ _ _ (b .before .judge-table .ensures) (b .if1 .left) ∙ rw (le-leb _ _ (c .before .if2 .left), lt-leb _ _ (c .if3 .taken)))
 
 returns-4 : tie.Need-returns-4
 unfolding sizesRefusal
 returns-4 c =
     let b = c .before .before in
-    sym (or-else-passed _ _ _ (b .before .judge-table .ensures) (b .if1 .left) ∙ rw (le-leb _ 3 (c .before .if2 .left), le-leb _ _ (c .if3 .left)))
+    sym (or-else-passed _ _ _ (b .before .judge-table .ensures) (b .if1 .left) ∙ rw (le-leb _ _ (c .before .if2 .left), le-leb _ _ (c .if3 .left)))
 
 pub judge-sizes-spec : {M : Type 1} → statement M
 judge-sizes-spec = tie.close (tie.spec judge-table-requires returns returns-2 returns-3 returns-4)
