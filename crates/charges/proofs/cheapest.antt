@@ -1,6 +1,8 @@
 pub mod Used
 pub mod Sums
 pub mod FirstTerms
-pub mod Polarities
+pub mod SumsRead
+pub mod Choices
 pub mod Weighed
 pub mod BlockCosts
+pub mod OtherBlocks

@@ -1,9 +1,11 @@
 // What the search carries with it.
 use expansions::families::Family;
+use expansions::kinds::Class;
 
-// How many inputs the table has, how many of them are mixed, and the family by whose rule an expansion is charged.
+// How many inputs the table has, the class, how many inputs are mixed, and the family by whose rule an expansion is charged.
 pub struct Sizes {
     pub n: usize,
+    pub class: Class,
     pub k: usize,
     pub family: Family,
 }

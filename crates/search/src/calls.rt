@@ -8,6 +8,8 @@ ghost use Rattle.search.specs.Calls.{minimiseRefusal, Minimise};
 use crate::answer::find_answer;
 use crate::expansion::Expansion;
 use expansions::families::Family;
+use expansions::kinds::Class;
+use numbers::refusals::MOST_MIXED;
 use numbers::refusals::judge_sizes;
 use numbers::refusals::within_outputs;
 
@@ -38,7 +40,7 @@ fn first_refusal(
 ) -> usize
     ensures { λ r. ⌜ r ≡ minimiseRefusal n m k (now (table .entry)) coefficients blocks ⌝ }
 {
-    let sizes = judge_sizes(n, m, k);
+    let sizes = judge_sizes(n, m, MOST_MIXED, k);
     if sizes != 0 {
         return sizes;
     }
@@ -85,7 +87,7 @@ pub fn minimise(
     if number != 0 {
         return Minimised::Refused { number, line: 0 };
     }
-    let found = find_answer(Family::One, n, m, k, table);
+    let found = find_answer(Class::Block, Family::One, n, m, k, table);
     let places = found.coefficients;
     copy_places(&places, coefficients);
     let polarities = found.blocks;

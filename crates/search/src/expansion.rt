@@ -4,8 +4,8 @@ ghost use mathlib.Core.Path.{_≡_};
 ghost use Prim.Native.Nat.{_-_, _^_, min};
 ghost use Rattle.search.specs.Expansion.{emptyExpansion};
 
-// A member of the class and what it costs: the coefficient of each term, the polarity of each block, the mixed set M and the fixed
-// polarity i as masks, the counts of products and literals, and the outputs that are inverted, bit o for output o.
+// A member of a class and what it costs: the coefficient of each term, the choice of each block, which in document 01's class is its polarity, the
+// mixed set M and the fixed polarity i as masks, the counts of products and literals, and the outputs that are inverted, bit o for output o.
 pub struct Expansion {
     pub coefficients: [u8; Expansion::PLACES],
     pub blocks: [u8; Expansion::PLACES],
@@ -23,10 +23,10 @@ impl Expansion {
     // The most outputs: m is 1 to 8.
     pub const MOST_OUTPUTS: usize = numbers::refusals::MOST_OUTPUTS;
 
-    // The most mixed inputs: k is 0 to 3, and at most n.
+    // The most mixed inputs of document 01's class: k is 0 to 3, and at most n.
     pub const MOST_MIXED: usize = numbers::refusals::MOST_MIXED;
 
-    // The coefficient places, one for each term of as many inputs as there can be; there are as many for the block polarities.
+    // The coefficient places, one for each term of as many inputs as there can be; there are as many for the choices of the blocks.
     pub const PLACES: usize = 1 << Expansion::MOST_INPUTS;
 
     // The expansion with no product and no output inverted, whose mixed set is the k lowest inputs. A k above 8 is read as 8, so that the set stays

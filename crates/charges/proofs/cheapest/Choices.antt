@@ -1,35 +1,38 @@
 -- The loops over the bytes of a word of small sums, and of a word of masks beside it. They hold the first least of the sums tried (`SumsTried`) and what
--- is left of each word (`Shifted`); at the end that is the first least of all (`tried-all`), and by it the cheapest polarity of a block
--- (`cheapest-masked`, `cheapest-sum`).
-use mathlib.Core.Path.{_≡_, refl, sym, ap, ap₂, _∙_}
+-- is left of each word (`Shifted`); at the end that is the first least of all (`tried-all`). Of two words it is the lesser of their two (`lesser-high`,
+-- `lesser-low`), and by it the cheapest choice of a block is had (`cheapest-masked`, `cheapest-sum`).
+use mathlib.Core.Logic.{inl}
+use mathlib.Core.Path.{_≡_, refl, sym, ap, ap₂, _∙_, subst}
 use mathlib.Core.Bool.{true}
 use Prim.Native.Nat.{ℕ, suc, _+_, _-_, _*_, _/_, _%_, _^_, _≤_, _<_}
-use native.Mathlib.Nat.{mod-eq-of-lt}
+use native.Mathlib.Nat.{mod-eq-of-lt, zero-add}
+use native.Mathlib.Decide.{decLt}
 use native.Mathlib.Omega.{arith}
 use lib.Bits.{bitAnd, and-mask}
+use lib.Dec.{lit<}
 use lib.Pow.{pow-pos, pow-mono, shr-shr}
-use Rattle.numbers.specs.Words.{word, byte}
+use Rattle.numbers.specs.Words.{byte}
 use Rattle.numbers.proofs.Shifts.{one-shifted}
-use Rattle.numbers.proofs.Words.{word-byte, byte-zero, byte-lt}
-use Rattle.expansions.specs.Answers.{leastPolarity}
+use Rattle.numbers.proofs.Words.{byte-zero, byte-lt}
+use Rattle.expansions.specs.Answers.{leastChoice}
 use Rattle.expansions.specs.declared.families.Family.{Family}
 use Rattle.expansions.specs.Rules.{ruleOf}
-use Rattle.expansions.specs.Least.{better, firstLeast}
+use Rattle.expansions.specs.Least.{LeastThen, better, firstLeast}
 use Rattle.expansions.specs.inner.Charges.{smallSum, usedCharge, sumCharge}
 use Rattle.expansions.specs.inner.Leading.{Leading}
-use Rattle.expansions.proofs.Least.{leading-take, leading-keep, leading-chosen}
-use Rattle.expansions.proofs.Minimal.{polarity-first, leastPolarity-ext}
+use Rattle.expansions.proofs.Least.{then-le, then-map, then-from, IsFirst, first-unique, leading-take, leading-keep, leading-chosen}
+use Rattle.expansions.proofs.Minimal.{choice-first, leastChoice-ext}
 use Rattle.expansions.proofs.Rules.{rule-outweighs}
-use Rattle.expansions.proofs.SmallSums.{smallSum-le, stands-for, leastPolarity-scaled, leastPolarity-sums, sumCharge-least}
+use Rattle.expansions.proofs.SmallSums.{stands-for, leastChoice-scaled, leastChoice-sums, sumCharge-least}
 use Rattle.charges.specs.inner.Charges.{IsLeastSum, IsCheapest}
 use Rattle.charges.specs.declared.cheapest.LeastSum.{LeastSum}
 use Rattle.charges.specs.declared.cheapest.Cheapest.{Cheapest}
 
--- the sum and the polarity of `least` are the first least of the sums of the polarities below phi; every sum is below the top
+-- the sum and the choice of `least` are the first least of the sums of the choices below phi; every sum is below the top
 abbrev LeadsBelow : (top : ℕ) → (ℕ → ℕ) → LeastSum → ℕ → Type 0
-LeadsBelow top sums least phi = Leading top sums (firstLeast phi (λ φ. true) sums) (least .sum) (least .polarity)
+LeadsBelow top sums least phi = Leading top sums (firstLeast phi (λ φ. true) sums) (least .sum) (least .choice)
 
--- `left` of the polarities are to be tried
+-- `left` of the choices are to be tried
 pub record SumsTried (k top : ℕ) (sums : ℕ → ℕ) (count : ℕ) (least : LeastSum) (left : ℕ) : Type 0 where
   pub few : k ≤ 3
   pub all : count ≡ 2 ^ k
@@ -44,7 +47,7 @@ Shifted w count rest left = rest ≡ w / 2 ^ (8 * (count - left))
 pub count-pos : (k : ℕ) → k ≤ 3 → 1 ≤ 1 * 2 ^ k % 2 ^ 64
 count-pos k h = omega (arith, one-shifted k (omega arith), pow-pos k)
 
--- the polarity 0 is tried
+-- the choice 0 is tried
 module _ (k : ℕ) (h : k ≤ 3) where
   one : 1 * 2 ^ k % 2 ^ 64 - (1 * 2 ^ k % 2 ^ 64 - 1) ≡ 1
   one = omega (arith, count-pos k h)
@@ -53,7 +56,7 @@ module _ (k : ℕ) (h : k ≤ 3) where
   shifted-first w = ap (λ (x : ℕ). w / 2 ^ (8 * x)) (sym one)
 
   pub tried-first : (top : ℕ) (sums : ℕ → ℕ) (sum : ℕ) → ((φ : ℕ) → sums φ < top) → sum ≡ sums 0
-      → SumsTried k top sums (1 * 2 ^ k % 2 ^ 64) (record { sum = sum; polarity = 0 }) (1 * 2 ^ k % 2 ^ 64 - 1)
+      → SumsTried k top sums (1 * 2 ^ k % 2 ^ 64) (record { sum = sum; choice = 0 }) (1 * 2 ^ k % 2 ^ 64 - 1)
   unfolding firstLeast better
   tried-first top sums sum small e =
       record { few = h; all = one-shifted k (omega arith); some = omega (arith, count-pos k h); below = small; best = rw one (refl, e) }
@@ -74,86 +77,138 @@ module _ (k top : ℕ) (sums : ℕ → ℕ) (count : ℕ) (least : LeastSum) (le
   abbrev phi : ℕ
   phi = count - left
 
-  -- one more polarity, after which `next` is the best
+  -- one more choice, after which `next` is the best
   tried-more : (next : LeastSum) → LeadsBelow top sums next (suc phi) → SumsTried k top sums count next (left - 1)
   tried-more next best =
       let more : suc phi ≡ count - (left - 1) = omega (arith, tried .some) in
       record { few = tried .few; all = tried .all; some = omega (arith, tried .some); below = tried .below; best = rw more at best }
 
-  pub tried-take : sum < least .sum → SumsTried k top sums count (record { sum = sum; polarity = bitAnd (count - left) 255 }) (left - 1)
+  pub tried-take : sum < least .sum → SumsTried k top sums count (record { sum = sum; choice = bitAnd (count - left) 255 }) (left - 1)
   tried-take h =
       let eight : 2 ^ k ≤ 2 ^ 3 = pow-mono (tried .few) in
       let same : bitAnd phi 255 ≡ phi = and-mask phi 8 ∙ mod-eq-of-lt (omega (arith, tried .all)) in
-      tried-more (record { sum = sum; polarity = bitAnd phi 255 })
-      (rw same (leading-take top (λ φ. true) sums phi (least .sum) (least .polarity) (tried .best) sum refl read h))
+      tried-more (record { sum = sum; choice = bitAnd phi 255 })
+      (rw same (leading-take top (λ φ. true) sums phi (least .sum) (least .choice) (tried .best) sum refl read h))
 
   pub tried-keep : least .sum ≤ sum → SumsTried k top sums count least (left - 1)
   tried-keep h =
       tried-more least
-      (leading-keep top (λ φ. true) sums phi (least .sum) (least .polarity) (tried .best) sum refl read (omega (arith, read, tried .below phi)) h)
+      (leading-keep top (λ φ. true) sums phi (least .sum) (least .choice) (tried .best) sum refl read (omega (arith, read, tried .below phi)) h)
 
-pub tried-all : (k top : ℕ) (sums : ℕ → ℕ) (count : ℕ) (least : LeastSum) (left : ℕ) → left ≤ 0 → SumsTried k top sums count least left → IsLeastSum k sums least
-unfolding leastPolarity
+pub tried-all : (k top : ℕ) (sums : ℕ → ℕ) (count : ℕ) (least : LeastSum) (left : ℕ) → left ≤ 0 → SumsTried k top sums count least left → IsLeastSum (2 ^ k) sums least
+unfolding leastChoice
 tried-all k top sums count least left h t =
     let e : count - left ≡ 2 ^ k = omega (arith, t .all) in
-    let d = leading-chosen top (λ φ. true) sums (2 ^ k) (least .sum) (least .polarity) (rw e at (t .best)) 0 (pow-pos k) tt in
-    record { polarity = d .0; sum = d .1 }
+    let d = leading-chosen top (λ φ. true) sums (2 ^ k) (least .sum) (least .choice) (rw e at (t .best)) 0 (pow-pos k) tt in
+    record { choice = d .0; sum = d .1 }
 
 -- a byte of each word
 pub pair-lt : (sums masks φ : ℕ) → byte φ sums * 256 + byte φ masks < 65536
 pair-lt sums masks φ = omega (arith, byte-lt φ sums, byte-lt φ masks)
 
+-- ---- from two words
+
+-- the first least of sixteen numbers is that of the first eight, and where those of the last eight have a lesser one, that of these
+module _ (sums : ℕ → ℕ) (low high : LeastSum) (a : IsLeastSum 8 sums low) (b : IsLeastSum 8 (λ x. sums (8 + x)) high) where
+  abbrev Low : IsFirst 8 (λ x. true) sums (leastChoice 8 sums)
+  Low = choice-first 8 (lit< tt) sums
+
+  abbrev High : IsFirst 8 (λ x. true) (λ x. sums (8 + x)) (leastChoice 8 (λ x. sums (8 + x)))
+  High = choice-first 8 (lit< tt) (λ x. sums (8 + x))
+
+  least-from : (x : ℕ) → IsFirst 16 (λ y. true) sums x → (sum : ℕ) → sum ≡ sums x → IsLeastSum 16 sums (record { sum = sum; choice = x })
+  least-from x is sum e =
+      let same : x ≡ leastChoice 16 sums = first-unique 16 (λ y. true) sums x (leastChoice 16 sums) is (choice-first 16 (lit< tt) sums) in
+      record { choice = same; sum = e ∙ ap sums same }
+
+  -- the first least of each eight, counted from 0
+  abbrev lc : ℕ
+  lc = leastChoice 8 sums
+
+  abbrev hc : ℕ
+  hc = leastChoice 8 (λ x. sums (8 + x))
+
+  pub lesser-high : high .sum < low .sum → IsLeastSum 16 sums (record { sum = high .sum; choice = high .choice + 8 })
+  lesser-high h = let place : high .choice + 8 ≡ 8 + hc = omega (arith, b .choice) in rw place (least-from (8 + hc) is (high .sum) (b .sum))
+    where
+      go : (i : ℕ) → i < 16 → Dec (i < 8) → LeastThen (sums (8 + hc)) (sums i) (8 + hc ≤ i)
+      go i l (yes s) = inl (omega (arith, a .sum, b .sum, then-le _ _ (Low .first i s tt)))
+      go i l (no s) =
+          let e : 8 + (i - 8) ≡ i = omega arith in
+          let r : LeastThen (sums (8 + hc)) (sums (8 + (i - 8))) (8 + hc ≤ i) = then-map _ _ (λ o. omega arith) (High .first (i - 8) (omega arith) tt) in
+          subst (λ (x : ℕ). LeastThen (sums (8 + hc)) (sums x) (8 + hc ≤ i)) e r
+
+      is : IsFirst 16 (λ y. true) sums (8 + hc)
+      is = record { below = omega (arith, High .below); fits = tt; first = λ i l t. go i l (decLt i 8) }
+
+  pub lesser-low : low .sum ≤ high .sum → IsLeastSum 16 sums low
+  lesser-low h = let least = least-from lc is (low .sum) (a .sum) in record { choice = a .choice ∙ least .choice; sum = least .sum }
+    where
+      go : (i : ℕ) → i < 16 → Dec (i < 8) → LeastThen (sums lc) (sums i) (lc ≤ i)
+      go i l (yes s) = Low .first i s tt
+      go i l (no s) =
+          let e : 8 + (i - 8) ≡ i = omega arith in
+          let later : sums (8 + hc) ≤ sums (8 + (i - 8)) = then-le _ _ (High .first (i - 8) (omega arith) tt) in
+          then-from (sums lc) (sums i) (omega (arith, a .sum, b .sum, later, ap sums e)) (λ c. omega (arith, Low .below))
+
+      is : IsFirst 16 (λ y. true) sums lc
+      is = record { below = omega (arith, Low .below); fits = tt; first = λ i l t. go i l (decLt i 8) }
+
 -- ---- the block's cost, from the least sum
 
-module _ (F : Family) (k more used sums : ℕ) (least : LeastSum) (hk : k ≤ 3) (es : sums ≡ word 8 (λ φ. smallSum (byte φ used))) where
-  sum-of : (φ : ℕ) → φ < 2 ^ k → byte φ sums ≡ smallSum (byte φ used)
-  sum-of φ h =
-      let eight : 2 ^ k ≤ 2 ^ 3 = pow-mono hk in
-      ap (byte φ) es ∙ word-byte 8 (λ ψ. smallSum (byte ψ used)) (λ ψ l. omega (arith, smallSum-le (byte ψ used) (byte-lt ψ used))) φ (omega arith)
-
-  abbrev cost : (ℕ → ℕ) → ℕ → ℕ
-  cost masks φ = usedCharge (ruleOf F) more (byte φ used) * 256 + masks φ
+module _ (F : Family) (N more : ℕ) (some : 0 < N) (used masks : ℕ → ℕ) (least : LeastSum) (bytes : (x : ℕ) → x < N → used x < 2 ^ 8)
+    (small : (x : ℕ) → x < N → masks x < 256) where
+  abbrev sums : ℕ → ℕ
+  sums x = smallSum (used x)
 
   -- with masks below the sums
-  pub cheapest-masked : (masks : ℕ) → IsLeastSum k (λ φ. byte φ sums * 256 + byte φ masks) least
+  pub cheapest-masked : IsLeastSum N (λ x. sums x * 256 + masks x) least
       → (charge : ℕ) → charge ≡ sumCharge (ruleOf F) more (least .sum / 256) * 256 + bitAnd (least .sum) 255
-      → IsCheapest k (cost (λ φ. byte φ masks)) (record { charge = charge; polarity = least .polarity })
-  cheapest-masked masks is charge e =
+      → IsCheapest N (λ x. usedCharge (ruleOf F) more (used x) * 256 + masks x) (record { charge = charge; choice = least .choice })
+  cheapest-masked is charge e =
       record {
-        polarity =
-            is .polarity
-            ∙ leastPolarity-sums (ruleOf F) (rule-outweighs F) k more (λ φ. byte φ sums) (λ φ. byte φ used) (λ φ. byte φ masks) (λ φ h. byte-lt φ used) sum-of
-            (λ φ h. byte-lt φ masks);
+        choice = is .choice ∙ leastChoice-sums (ruleOf F) (rule-outweighs F) N more some sums used masks bytes (λ x h. refl) small;
         charge =
             e ∙ ap₂ (λ (x y : ℕ). sumCharge (ruleOf F) more (x / 256) * 256 + y) (is .sum) (and-mask (least .sum) 8 ∙ ap (λ (x : ℕ). x % 256) (is .sum))
-            ∙ sumCharge-least (ruleOf F) (rule-outweighs F) k more (λ φ. byte φ sums) (λ φ. byte φ used) (λ φ. byte φ masks) (λ φ h. byte-lt φ used) sum-of
-            (λ φ h. byte-lt φ masks);
+            ∙ sumCharge-least (ruleOf F) (rule-outweighs F) N more some sums used masks bytes (λ x h. refl) small;
       }
 
-  -- with no masks
-  pub cheapest-sum : IsLeastSum k (λ φ. byte φ sums) least → (charge : ℕ) → charge ≡ sumCharge (ruleOf F) more (least .sum)
-      → IsCheapest k (λ φ. usedCharge (ruleOf F) more (byte φ used)) (record { charge = charge; polarity = least .polarity })
+-- with no masks
+module _ (F : Family) (N more : ℕ) (some : 0 < N) (used : ℕ → ℕ) (least : LeastSum) (bytes : (x : ℕ) → x < N → used x < 2 ^ 8) where
+  abbrev cost : ℕ → ℕ
+  cost x = usedCharge (ruleOf F) more (used x)
+
+  pub cheapest-sum : IsLeastSum N (λ x. smallSum (used x)) least → (charge : ℕ) → charge ≡ sumCharge (ruleOf F) more (least .sum)
+      → IsCheapest N cost (record { charge = charge; choice = least .choice })
   cheapest-sum is charge e =
-      let g : ℕ → ℕ = λ φ. byte φ sums in
-      let costs : ℕ → ℕ = λ φ. usedCharge (ruleOf F) more (byte φ used) in
-      let same : leastPolarity k g ≡ leastPolarity k costs =
-      leastPolarity-scaled k g
-      ∙ leastPolarity-sums (ruleOf F) (rule-outweighs F) k more g (λ φ. byte φ used) (λ φ. 0) (λ φ h. byte-lt φ used) sum-of (λ φ h. omega arith)
-      ∙ sym (leastPolarity-scaled k costs) in
+      let g : ℕ → ℕ = λ x. smallSum (used x) in
+      let same : leastChoice N g ≡ leastChoice N cost =
+      leastChoice-scaled N some g
+      ∙ leastChoice-sums (ruleOf F) (rule-outweighs F) N more some g used (λ x. 0) bytes (λ x h. refl) (λ x h. lit< tt)
+      ∙ sym (leastChoice-scaled N some cost) in
       record {
-        polarity = is .polarity ∙ same;
+        choice = is .choice ∙ same;
         charge =
             e ∙ ap (sumCharge (ruleOf F) more) (is .sum)
-            ∙ stands-for (ruleOf F) (rule-outweighs F) k more g (λ φ. byte φ used) (λ φ. 0) (λ φ h. byte-lt φ used) sum-of (λ φ h. omega arith) (leastPolarity k g)
-            (polarity-first k g .below)
-            ∙ ap costs same;
+            ∙ stands-for (ruleOf F) (rule-outweighs F) N more some g used (λ x. 0) bytes (λ x h. refl) (λ x h. lit< tt) (leastChoice N g)
+            (choice-first N some g .below)
+            ∙ ap cost same;
       }
 
--- by other costs that are the same under each polarity
-pub cheapest-ext : (k : ℕ) (cost other : ℕ → ℕ) (r : Cheapest) → ((φ : ℕ) → φ < 2 ^ k → cost φ ≡ other φ) → IsCheapest k cost r → IsCheapest k other r
-cheapest-ext k cost other r e is =
-    let same : leastPolarity k cost ≡ leastPolarity k other = leastPolarity-ext k cost other e in
-    record {
-      polarity = is .polarity ∙ same;
-      charge = is .charge ∙ e (leastPolarity k cost) (polarity-first k cost .below) ∙ ap other same;
-    }
+-- by other sums or costs that are the same under each choice
+pub least-ext : (N : ℕ) → 0 < N → (sums other : ℕ → ℕ) (r : LeastSum) → ((x : ℕ) → x < N → sums x ≡ other x) → IsLeastSum N sums r → IsLeastSum N other r
+least-ext N some sums other r e is =
+    let same : leastChoice N sums ≡ leastChoice N other = leastChoice-ext N sums other e in
+    record { choice = is .choice ∙ same; sum = is .sum ∙ e (leastChoice N sums) (choice-first N some sums .below) ∙ ap other same }
+
+-- from the choice 0 on
+pub least-zero : (N : ℕ) → 0 < N → (sums : ℕ → ℕ) (r : LeastSum) → IsLeastSum N (λ q. sums (0 * 8 + q)) r → IsLeastSum N sums r
+least-zero N some sums r = least-ext N some _ sums r (λ q l. ap sums (zero-add q))
+
+pub least-lt : (N : ℕ) → 0 < N → (sums : ℕ → ℕ) (r : LeastSum) → IsLeastSum N sums r → r .choice < N
+least-lt N some sums r is = rw (is .choice) (choice-first N some sums .below)
+
+pub cheapest-ext : (N : ℕ) → 0 < N → (cost other : ℕ → ℕ) (r : Cheapest) → ((x : ℕ) → x < N → cost x ≡ other x) → IsCheapest N cost r → IsCheapest N other r
+cheapest-ext N some cost other r e is =
+    let same : leastChoice N cost ≡ leastChoice N other = leastChoice-ext N cost other e in
+    record { choice = is .choice ∙ same; charge = is .charge ∙ e (leastChoice N cost) (choice-first N some cost .below) ∙ ap other same }

@@ -1,6 +1,7 @@
--- The constant of a block under all eight polarities: term 0 of each byte of terms in a word (`first-terms`), its bit in the row of an output
--- (`output-first`), and the bytes of terms without it (`even-bytes`).
+-- The constant of a block under eight choices: term 0 of each byte of terms in a word (`first-terms`), the entries in the row of an output
+-- (`entries-first`), and the bytes of terms without it (`even-bytes`).
 use mathlib.Core.Path.{_≡_, sym, ap, _∙_}
+use mathlib.Core.Bool.{cond}
 use mathlib.Core.List.{List}
 use Prim.Native.Nat.{ℕ, _+_, _-_, _*_, _/_, _^_, _<_}
 use native.Mathlib.Omega.{arith}
@@ -9,10 +10,11 @@ use Rattle.numbers.specs.Bytes.{at}
 use Rattle.numbers.specs.Bits.{bit}
 use Rattle.numbers.specs.Words.{word, byte}
 use Rattle.numbers.proofs.Bits.{bit-zero}
-use Rattle.numbers.proofs.Bytes.{at-tabulate}
-use Rattle.numbers.proofs.Words.{word-ext, word-add, word-digit, word-bytes, byte-lt}
-use Rattle.expansions.specs.BlockTable.{entry, row, blockRows}
-use Rattle.expansions.proofs.BlockTable.{entry-lt}
+use Rattle.numbers.proofs.Words.{word-ext, word-add, word-digit, word-byte, word-bytes, byte-lt}
+use Rattle.expansions.specs.declared.kinds.Class.{Class}
+use Rattle.expansions.specs.Classes.{apart}
+use Rattle.expansions.specs.BlockTable.{choiceEntry, Rows}
+use Rattle.expansions.proofs.BlockTable.{choiceEntry-lt, half-held}
 
 -- the lowest bit of each byte of a word
 abbrev pub lowest : ℕ → ℕ
@@ -27,11 +29,12 @@ lowest-word u small =
 pub first-terms : (used : ℕ) → used < 2 ^ 64 → lowest used ≡ word 8 (λ φ. bit 0 (byte φ used))
 first-terms used h = ap lowest (sym (word-bytes 8 used h)) ∙ lowest-word (λ φ. byte φ used) (λ φ l. byte-lt φ used)
 
--- the row of an output's block function
-pub output-first : (rows : List ℕ) (g : ℕ) → rows ≡ blockRows → g < 256 → lowest (at rows g) ≡ word 8 (λ φ. bit 0 (entry g φ))
-unfolding row
-output-first rows g table small =
-    ap lowest (ap (λ (xs : List ℕ). at xs g) table ∙ at-tabulate 256 row g small) ∙ lowest-word (entry g) (λ φ h. entry-lt g φ h)
+-- the lowest bits of the entries in the row of an output's block function
+pub entries-first : (C : Class) (k : ℕ) (rows : List ℕ) → Rows C k rows → (half : ℕ) → half < cond (apart C k) 2 1 → (g : ℕ) → g < 256
+    → (q : ℕ) → q < 8 → byte q (at rows (half * 256 + g)) ≡ choiceEntry C k g (half * 8 + q)
+entries-first C k rows held half h g l q b =
+    ap (byte q) (held half g h l)
+    ∙ word-byte 8 (λ r. choiceEntry C k g (half * 8 + r)) (λ r a. choiceEntry-lt C k g (half * 8 + r) (half-held C k half r h a)) q b
 
 -- ---- without it
 

@@ -12,7 +12,8 @@ use Rattle.numbers.proofs.Bytes.{at-tabulate}
 use Rattle.numbers.proofs.Pack.{pack-ext}
 use Rattle.algebra.specs.Coefficients.{coefficient}
 use Rattle.expansions.specs.Answers.{blockFunction}
-use Rattle.expansions.specs.BlockTable.{entry}
+use Rattle.expansions.specs.Classes.{choices, placeCoefficient}
+use Rattle.expansions.specs.BlockTable.{choiceEntry}
 use Rattle.expansions.specs.Split.{gather, outside, join}
 use Rattle.expansions.specs.inner.Planes.{plane}
 use Rattle.expansions.proofs.BlockTable.{plane-coefficient, entry-outputs}
@@ -45,10 +46,10 @@ module _ (s : Sizes) (M i : ℕ) (f : ℕ → ℕ) (lanes : List ℕ) (limits : 
       ∙ lanes-at (s .n - s .k) (gather (s .n) (outside (s .n) M) i) (placesByte (s .n) (s .k) M f) o j ho hj
       ∙ plane-coefficient (s .k) (s .n - s .k) (gather (s .n) (outside (s .n) M) i) (λ q p. f (join (s .n) M q p)) o j (fixed-lt (s .n) (s .k) M i (set .size))
 
-  pub held-coefficient : (j r φ : ℕ) → j < 2 ^ (s .n - s .k) → r < 2 ^ s .k → φ < 2 ^ s .k
-      → coefficientIn (at lanes) j r φ ≡ coefficient (s .k) φ (blockFunction (s .n) (s .k) f M i j) r
+  pub held-coefficient : (j r x : ℕ) → j < 2 ^ (s .n - s .k) → r < 2 ^ s .k → x < choices (s .class) (s .k)
+      → coefficientIn (s .class) (s .k) (at lanes) j r x ≡ placeCoefficient (s .class) (s .k) x (blockFunction (s .n) (s .k) f M i j) r
   unfolding coefficientIn
-  held-coefficient j r φ hj hr hφ =
-      pack-ext 8 _ _ (λ o l. ap (λ (g : ℕ). bit r (entry g φ)) (held-plane o j l hj))
-      ∙ entry-outputs 8 (s .k) φ (blockFunction (s .n) (s .k) f M i j) (limits .mixed) hφ
+  held-coefficient j r x hj hr hx =
+      pack-ext 8 _ _ (λ o l. ap (λ (g : ℕ). bit r (choiceEntry (s .class) (s .k) g x)) (held-plane o j l hj))
+      ∙ entry-outputs 8 (s .class) (s .k) x (blockFunction (s .n) (s .k) f M i j) (limits .mixed) hx
       (λ p l. blockFunction-lt 8 (s .n) (s .k) M i f outputs (set .size) j p) r hr

@@ -8,8 +8,13 @@ use native.Mathlib.Omega.{arith}
 use lib.ListN.{length, take, replicate, length-replicate, length-append}
 use lib.Seq.{length-take-le, take-at}
 use lib.Pow.{pow-mono}
+use Rattle.expansions.proofs.Classes.{most-three}
 use Rattle.lanes.specs.inner.Sizes.{Limits}
 use Rattle.lanes.specs.declared.sizes.Sizes.{Sizes}
+
+-- whatever the class
+pub few : (s : Sizes) → Limits s → s .k ≤ 3
+few s limits = omega (arith, limits .mixed, most-three (s .class))
 
 pub blocks-le : (s : Sizes) → Limits s → s .n - s .k ≤ 8
 blocks-le s limits = omega (arith, limits .inputs)

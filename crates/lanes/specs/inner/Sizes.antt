@@ -3,12 +3,13 @@
 use mathlib.Core.Path.{_≡_}
 use Prim.Native.Nat.{ℕ, _^_, _≤_, _<_}
 use lib.Count.{onesIn}
+use Rattle.expansions.specs.Classes.{mostMixed}
 use Rattle.lanes.specs.declared.sizes.Sizes.{Sizes}
 
 -- the limits within which n and k are where the search is carried out
 pub record Limits (s : Sizes) : Type 0 where
   pub inputs : s .n ≤ 8
-  pub mixed : s .k ≤ 3
+  pub mixed : s .k ≤ mostMixed (s .class)
   pub within : s .k ≤ s .n
 
 -- "a mixed set M of exactly k inputs (as a mask)"

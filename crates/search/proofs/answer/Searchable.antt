@@ -11,7 +11,9 @@ use lib.Pow.{pow-pos, pow-mono}
 use Rattle.numbers.specs.Bytes.{at, allBelow}
 use Rattle.numbers.proofs.Tests.{same-test, both-left, both-right}
 use Rattle.numbers.proofs.refusals.Outputs.{below-at}
+use Rattle.expansions.specs.declared.kinds.Class.{Class}
 use Rattle.expansions.specs.declared.families.Family.{Family}
+use Rattle.expansions.specs.Classes.{mostMixed}
 use Rattle.search.specs.Expansion.{answerExpansion, searchable, searched}
 use Rattle.lanes.specs.inner.Sizes.{Limits}
 use Rattle.search.specs.inner.Search.{Given}
@@ -20,19 +22,19 @@ use Rattle.numbers.proofs.refusals.Judging.{sizes-none, sizes-accepted}
 
 -- ---- from the test
 
-module _ (n m k : ℕ) (table : List ℕ) (e : searchable n m k table ≡ true) where
-  sizes : eqb (sizesRefusal n m k) 0 ≡ true
+module _ (C : Class) (n m k : ℕ) (table : List ℕ) (e : searchable C n m k table ≡ true) where
+  sizes : eqb (sizesRefusal n m (mostMixed C) k) 0 ≡ true
   unfolding searchable
   sizes = both-left _ _ e
 
   bytes : (eqb (length table) (2 ^ n) && allBelow (2 ^ m) table) ≡ true
   unfolding searchable
-  bytes = both-right (eqb (sizesRefusal n m k) 0) _ e
+  bytes = both-right (eqb (sizesRefusal n m (mostMixed C) k) 0) _ e
 
-  sized : Sized n m k
-  sized = sizes-none n m k (eqb-true (sizesRefusal n m k) 0 sizes)
+  sized : Sized n m (mostMixed C) k
+  sized = sizes-none n m (mostMixed C) k (eqb-true (sizesRefusal n m (mostMixed C) k) 0 sizes)
 
-  pub allowed-sizes : (F : Family) → Limits (record { n = n; k = k; family = F })
+  pub allowed-sizes : (F : Family) → Limits (record { n = n; class = C; k = k; family = F })
   allowed-sizes F = record { inputs = sized .inputs .1; mixed = sized .mixed .0; within = sized .mixed .1 }
 
   outputs : (p : ℕ) → at table p < 2 ^ m
@@ -48,8 +50,8 @@ module _ (n m k : ℕ) (table : List ℕ) (e : searchable n m k table ≡ true) 
 
 -- ---- to the answer
 
-pub searched-answer : (F : Family) (n m k : ℕ) (table : List ℕ) → Sized n m k → length table ≡ 2 ^ n → T (allBelow (2 ^ m) table)
-    → searched F n m k table ≡ answerExpansion F n k (at table)
+pub searched-answer : (C : Class) (F : Family) (n m k : ℕ) (table : List ℕ) → Sized n m (mostMixed C) k → length table ≡ 2 ^ n → T (allBelow (2 ^ m) table)
+    → searched C F n m k table ≡ answerExpansion C F n k (at table)
 unfolding searched searchable
-searched-answer F n m k table sized long clean =
-    rw (sizes-accepted n m k sized, eq-eqb (length table) (2 ^ n) long, same-test (allBelow (2 ^ m) table) true (λ t. tt) (λ t. clean))
+searched-answer C F n m k table sized long clean =
+    rw (sizes-accepted n m (mostMixed C) k sized, eq-eqb (length table) (2 ^ n) long, same-test (allBelow (2 ^ m) table) true (λ t. tt) (λ t. clean))

@@ -10,8 +10,9 @@ use Rattle.numbers.specs.Bytes.{at, tabulate}
 use Rattle.numbers.proofs.Bytes.{tabulate-ext}
 use Rattle.numbers.proofs.refusals.Outputs.{below-at}
 use Rattle.numbers.proofs.refusals.Judging.{kept}
+use Rattle.expansions.specs.declared.kinds.Class.the-variants.{Block}
 use Rattle.expansions.specs.declared.families.Family.the-variants.{One}
-use Rattle.expansions.specs.Answers.{Minimal, answerPolarity, answerCoefficient}
+use Rattle.expansions.specs.Answers.{Minimal, answerChoice, answerCoefficient}
 use Rattle.search.specs.Expansion.{answerExpansion}
 use Rattle.search.specs.Calls.{minimiseRefusal, minimised, Minimise}
 use Rattle.search.specs.declared.expansion.Expansion.{Expansion}
@@ -24,37 +25,37 @@ use Rattle.search.proofs.calls.Judging.{Accepted, refusal-none}
 
 module _ (n m k : ℕ) (table c b : List ℕ) (a : Accepted n m k table (length c) (length b)) where
   abbrev filledCoefficients : List ℕ
-  filledCoefficients = tabulate (2 ^ n) (answerCoefficient One n k (at table))
+  filledCoefficients = tabulate (2 ^ n) (answerCoefficient Block One n k (at table))
 
   abbrev filledBlocks : List ℕ
-  filledBlocks = tabulate (2 ^ (n - k)) (answerPolarity One n k (at table))
+  filledBlocks = tabulate (2 ^ (n - k)) (answerChoice Block One n k (at table))
 
-  copied-coefficients : tabulate (length c) (at (answerExpansion One n k (at table) .coefficients)) ≡ filledCoefficients
-  copied-coefficients = rw (a .coefficients-long) (tabulate-ext (2 ^ n) _ _ (λ t l. expansion-coefficients One n k (at table) (a .sized .inputs .1) t))
+  copied-coefficients : tabulate (length c) (at (answerExpansion Block One n k (at table) .coefficients)) ≡ filledCoefficients
+  copied-coefficients = rw (a .coefficients-long) (tabulate-ext (2 ^ n) _ _ (λ t l. expansion-coefficients Block One n k (at table) (a .sized .inputs .1) t))
 
-  copied-blocks : tabulate (length b) (at (answerExpansion One n k (at table) .blocks)) ≡ filledBlocks
-  copied-blocks = rw (a .blocks-long) (tabulate-ext (2 ^ (n - k)) _ _ (λ j l. expansion-blocks One n k (at table) (a .sized .inputs .1) j))
+  copied-blocks : tabulate (length b) (at (answerExpansion Block One n k (at table) .blocks)) ≡ filledBlocks
+  copied-blocks = rw (a .blocks-long) (tabulate-ext (2 ^ (n - k)) _ _ (λ j l. expansion-blocks Block One n k (at table) (a .sized .inputs .1) j))
 
   outputs : (p : ℕ) → p < 2 ^ n → at table p < 2 ^ m
   outputs p l = below-at (2 ^ m) table (pow-pos m) (a .clean) p
 
-  filled-minimal : let e = answerExpansion One n k (at table) in
-      Minimal One n k (at table) (e .inverted) (e .mixed) (e .fixed) (at filledBlocks) (at filledCoefficients) (e .products) (e .literals)
+  filled-minimal : let e = answerExpansion Block One n k (at table) in
+      Minimal Block One n k (at table) (e .inverted) (e .mixed) (e .fixed) (at filledBlocks) (at filledCoefficients) (e .products) (e .literals)
   unfolding answerExpansion
   filled-minimal =
-      rw (at-coefficients One n k (at table) (2 ^ n) (omega arith), at-blocks One n k (at table) (2 ^ (n - k)) (omega arith))
-      (answer-minimal One n k (at table) (a .sized .inputs .1) (a .sized .mixed .1) (λ p l. omega (arith, outputs p l, pow-mono {i = m} {j = 8} (a .sized .outputs .1))))
+      rw (at-coefficients Block One n k (at table) (2 ^ n) (omega arith), at-blocks Block One n k (at table) (2 ^ (n - k)) (omega arith))
+      (answer-minimal Block One n k (at table) (a .sized .inputs .1) (a .sized .mixed .1) (λ p l. omega (arith, outputs p l, pow-mono {i = m} {j = 8} (a .sized .outputs .1))))
 
   filled-outputs : (t : ℕ) → at filledCoefficients t < 2 ^ m
   filled-outputs t =
-      rw (ap (λ (g : ℕ → ℕ). g t) (at-coefficients One n k (at table) (2 ^ n) (omega arith)))
-      (answer-coefficient-lt One n k (at table) (a .sized .mixed .1) m outputs t)
+      rw (ap (λ (g : ℕ → ℕ). g t) (at-coefficients Block One n k (at table) (2 ^ n) (omega arith)))
+      (answer-coefficient-lt Block One n k (at table) (a .sized .mixed .1) m outputs t)
 
-  mask-outputs : answerExpansion One n k (at table) .inverted < 2 ^ m
-  mask-outputs = expansion-inverted-lt One n k (at table) (a .sized .inputs .1) m (a .sized .mixed .1) outputs
+  mask-outputs : answerExpansion Block One n k (at table) .inverted < 2 ^ m
+  mask-outputs = expansion-inverted-lt Block One n k (at table) (a .sized .inputs .1) m (a .sized .mixed .1) outputs
 
 pub minimise-found : (n m k : ℕ) (table c c′ b b′ : List ℕ) (e : Expansion) → minimiseRefusal n m k table (length c) (length b) ≡ 0
-    → e ≡ answerExpansion One n k (at table) → c′ ≡ tabulate (length c) (at (e .coefficients)) → b′ ≡ tabulate (length b) (at (e .blocks))
+    → e ≡ answerExpansion Block One n k (at table) → c′ ≡ tabulate (length c) (at (e .coefficients)) → b′ ≡ tabulate (length b) (at (e .blocks))
     → Minimise n m k table c c′ b b′ (Found (e .mixed) (e .fixed) (e .products) (e .literals) (e .inverted))
 unfolding minimised
 minimise-found n m k table c c′ b b′ e none is copied-c copied-b =
@@ -69,13 +70,13 @@ minimise-found n m k table c c′ b b′ e none is copied-c copied-b =
     a : Accepted n m k table (length c) (length b)
     a = refusal-none n m k table (length c) (length b) none
 
-    full-c : c′ ≡ tabulate (2 ^ n) (answerCoefficient One n k (at table))
+    full-c : c′ ≡ tabulate (2 ^ n) (answerCoefficient Block One n k (at table))
     full-c = copied-c ∙ rw is (copied-coefficients n m k table c b a)
 
-    full-b : b′ ≡ tabulate (2 ^ (n - k)) (answerPolarity One n k (at table))
+    full-b : b′ ≡ tabulate (2 ^ (n - k)) (answerChoice Block One n k (at table))
     full-b = copied-b ∙ rw is (copied-blocks n m k table c b a)
 
-    minimal : Minimal One n k (at table) (e .inverted) (e .mixed) (e .fixed) (at b′) (at c′) (e .products) (e .literals)
+    minimal : Minimal Block One n k (at table) (e .inverted) (e .mixed) (e .fixed) (at b′) (at c′) (e .products) (e .literals)
     minimal = rw (full-c, full-b, is) (filled-minimal n m k table c b a)
 
     mask : (M i p l v : ℕ) → Found (e .mixed) (e .fixed) (e .products) (e .literals) (e .inverted) ≡ Found M i p l v → v < 2 ^ m
@@ -85,7 +86,7 @@ minimise-found n m k table c c′ b b′ e none is copied-c copied-b =
 
     -- the returned numbers are the record's
     named : (M i p l v : ℕ) → Found (e .mixed) (e .fixed) (e .products) (e .literals) (e .inverted) ≡ Found M i p l v
-        → Minimal One n k (at table) (e .inverted) (e .mixed) (e .fixed) (at b′) (at c′) (e .products) (e .literals) → Minimal One n k (at table) v M i (at b′) (at c′) p l
+        → Minimal Block One n k (at table) (e .inverted) (e .mixed) (e .fixed) (at b′) (at c′) (e .products) (e .literals) → Minimal Block One n k (at table) v M i (at b′) (at c′) p l
     named M i p l v r =
         let mixed : M ≡ e .mixed = cc in
         let fixed : i ≡ e .fixed = cc in

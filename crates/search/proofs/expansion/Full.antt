@@ -1,7 +1,8 @@
--- An answer in which every term but the constant is a product; the constant is in its mask, so that there are no more (`answer-products-lt`). A rival
--- whose mixed set is the k lowest inputs, with the polarity of the answer's constant on every term, then costs as much and has the same mask; so the
+-- An answer in which every term but the constant is a product; the constant is in its mask, so that there are no more (`answer-products-lt`). Where the
+-- terms of a block do not choose apart, a rival whose mixed set is the k lowest inputs, with the polarity of the answer's constant on every term, then costs as much and has the same mask; so the
 -- answer's M is the least there is (`full-least`).
 use mathlib.Core.Path.{_≡_, refl, sym, ap, ap₂, _∙_}
+use mathlib.Core.Bool.{false}
 use Prim.Native.Nat.{ℕ, zero, suc, _+_, _-_, _^_, _≤_, _<_}
 use native.Mathlib.Nat.{add-zero, one-mul, not-suc-le-zero}
 use native.Mathlib.Omega.{arith}
@@ -11,9 +12,11 @@ use lib.Pow.{pow-pos}
 use Rattle.numbers.specs.Sums.{foldBelow, sumBelow}
 use Rattle.numbers.proofs.Sums.{fold-ext}
 use Rattle.algebra.specs.Coefficients.{coefficient}
+use Rattle.expansions.specs.declared.kinds.Class.{Class}
 use Rattle.expansions.specs.declared.families.Family.{Family}
 use Rattle.expansions.specs.declared.families.Family.the-variants.{One, Two}
 use Rattle.expansions.specs.Split.{join}
+use Rattle.expansions.specs.Classes.{apart}
 use Rattle.expansions.specs.Members.{block, place, polarity, Member, Gives}
 use Rattle.expansions.specs.Rules.{costOf, tieOf}
 use Rattle.expansions.specs.Costs.{counted, products, literals}
@@ -25,7 +28,7 @@ use Rattle.expansions.proofs.Split.{gather-lt, spread-zero, gather-join, join-g
 use Rattle.expansions.proofs.Blocks.{polarity-lt, member-expands, member-coefficient}
 use Rattle.expansions.proofs.Inverters.{constant, constant-inverted, gives-unique}
 use Rattle.expansions.proofs.Answers.{answer-constant}
-use Rattle.expansions.proofs.Lowest.{lowest-member, lowest-first}
+use Rattle.expansions.proofs.Lowest.{lowest-pair, lowest-first}
 
 -- ---- all terms are products
 
@@ -73,7 +76,7 @@ full-rival Two n c c′ none full h = omega (arith, literals-others n c none ful
 
 -- ---- the rival with the k lowest inputs, in which every term has the polarity w
 
-module _ (n k w : ℕ) (hk : k ≤ n) (hw : w < 2 ^ n) where
+module _ (C : Class) (n k w : ℕ) (one : apart C k ≡ false) (hk : k ≤ n) (hw : w < 2 ^ n) where
   abbrev low : ℕ
   low = 2 ^ k - 1
 
@@ -83,64 +86,70 @@ module _ (n k w : ℕ) (hk : k ≤ n) (hw : w < 2 ^ n) where
   abbrev inner : ℕ → ℕ
   inner j = place n low w
 
-  alike-member : Member n k low fixed inner
+  over : onesIn n low ≡ k → place n low w < 2 ^ k
+  over size = rw size at (gather-lt n low w)
+
+  alike-member : Member C n k low fixed inner
   alike-member =
-      let lowest = lowest-member n k hk in
+      let lowest = lowest-pair n k hk in
       record {
-        mask = lowest .mask;
-        size = lowest .size;
-        fixed = join-lt n low (block n low w) 0;
-        clear = gather-join n low (block n low w) 0 (pow-pos (onesIn n low));
-        inner = λ j l. rw (lowest .size) at (gather-lt n low w);
+        pair =
+            record {
+              mask = lowest .mask;
+              size = lowest .size;
+              fixed = join-lt n low (block n low w) 0;
+              clear = gather-join n low (block n low w) 0 (pow-pos (onesIn n low));
+            };
+        inner = λ j l. rw one (over (lowest .size));
       }
 
-  alike-polarity : (t : ℕ) → polarity n low fixed inner t ≡ w
+  alike-polarity : (t : ℕ) → polarity C n k low fixed inner t ≡ w
   unfolding polarity join
-  alike-polarity t = rw (spread-zero n low, add-zero) (join-gather n low w hw)
+  alike-polarity t = rw (one, spread-zero n low, add-zero) (join-gather n low w hw)
 
   module _ (f : ℕ → ℕ) where
     alike : ℕ → ℕ
-    alike = memberCoefficient n k f low fixed inner
+    alike = memberCoefficient C n k f low fixed inner
 
-    alike-gives : Gives n (alike 0) low fixed inner (withoutConstant alike) f
+    alike-gives : Gives n (alike 0) (polarity C n k low fixed inner) (withoutConstant alike) f
     unfolding alike
-    alike-gives p h = constant-inverted n (polarity n low fixed inner) _ p ∙ member-expands n k low fixed inner alike-member f p h
+    alike-gives p h = constant-inverted n (polarity C n k low fixed inner) _ p ∙ member-expands C n k low fixed inner alike-member f p h
 
     alike-constant : alike 0 ≡ coefficient n w f 0
     unfolding alike
-    alike-constant = member-coefficient n k low fixed inner f alike-member 0 (pow-pos n) ∙ ap (λ (x : ℕ). coefficient n x f 0) (alike-polarity 0)
+    alike-constant = member-coefficient C n k low fixed inner f one alike-member 0 (pow-pos n) ∙ ap (λ (x : ℕ). coefficient n x f 0) (alike-polarity 0)
 
 -- ---- the answer
 
-module _ (F : Family) (n k : ℕ) (f : ℕ → ℕ) (v M i : ℕ) (φ c : ℕ → ℕ) (p l : ℕ) (hn : n ≤ 8) (hk : k ≤ n) (bytes : (q : ℕ) → q < 2 ^ n → f q < 2 ^ 8)
-    (minimal : Minimal F n k f v M i φ c p l) where
+module _ (C : Class) (F : Family) (n k : ℕ) (f : ℕ → ℕ) (v M i : ℕ) (x c : ℕ → ℕ) (p l : ℕ) (hn : n ≤ 8) (hk : k ≤ n) (bytes : (q : ℕ) → q < 2 ^ n → f q < 2 ^ 8)
+    (minimal : Minimal C F n k f v M i x c p l) where
   none : c 0 ≡ 0
-  none = answer-constant F n k f hn hk bytes v M i φ c (minimal .answer)
+  none = answer-constant C F n k f hn hk bytes v M i x c (minimal .answer)
 
   pub answer-products-lt : p < 2 ^ n
   answer-products-lt = omega (arith, minimal .products-counted, products-few n c none)
 
   w : ℕ
-  w = polarity n M i φ 0
+  w = polarity C n k M i x 0
 
   -- the mask is what the constant would be
-  mask-constant : v ≡ coefficient n w f 0
+  mask-constant : apart C k ≡ false → v ≡ coefficient n w f 0
   unfolding constant w
-  mask-constant =
+  mask-constant one =
       sym (xor-zero-l v) ∙ ap (λ (x : ℕ). bitXor x v) (sym none)
-      ∙ gives-unique n k v M i φ (minimal .answer .member) f c (minimal .answer .gives) 0 (pow-pos n)
-      ∙ member-coefficient n k M i φ f (minimal .answer .member) 0 (pow-pos n)
+      ∙ gives-unique C n k v M i x (minimal .answer .member) f c (minimal .answer .gives) 0 (pow-pos n)
+      ∙ member-coefficient C n k M i x f one (minimal .answer .member) 0 (pow-pos n)
 
-  pub full-least : 2 ^ n ≤ suc p → M ≡ 2 ^ k - 1
+  pub full-least : apart C k ≡ false → 2 ^ n ≤ suc p → M ≡ 2 ^ k - 1
   unfolding withoutConstant w
-  full-least full =
-      let hw : w < 2 ^ n = polarity-lt n k M i φ (minimal .answer .member) 0 in
-      let c′ : ℕ → ℕ = withoutConstant (alike n k w hk hw f) in
-      let order = minimal .answer .first _ _ _ _ c′ (alike-member n k w hk hw) (alike-gives n k w hk hw f) in
+  full-least one full =
+      let hw : w < 2 ^ n = polarity-lt C n k M i x (minimal .answer .member) 0 in
+      let c′ : ℕ → ℕ = withoutConstant (alike C n k w one hk hw f) in
+      let order = minimal .answer .first _ _ _ _ c′ (alike-member C n k w one hk hw) (alike-gives C n k w one hk hw f) in
       let all : 2 ^ n ≤ suc (products n c) = omega (arith, minimal .products-counted) in
       let all′ : 2 ^ n ≤ suc (products n c′) = full-rival F n c c′ none all (then-le _ _ order) in
       let same : products n c ≡ products n c′ = omega (arith, products-few n c none, products-few n c′ refl) in
       let literal : literals n c ≡ literals n c′ = literals-others n c none all ∙ sym (literals-others n c′ refl all′) in
       let byMask = then-rest _ _ (ap₂ (tieOf F) same literal) (then-rest _ _ (ap₂ (costOf F) same literal) order) in
-      let byM = then-rest _ _ (mask-constant ∙ sym (alike-constant n k w hk hw f)) byMask in
-      omega (arith, then-le _ _ byM, then-le _ _ (lowest-first n k M i φ (minimal .answer .member)))
+      let byM = then-rest _ _ (mask-constant one ∙ sym (alike-constant C n k w one hk hw f)) byMask in
+      omega (arith, then-le _ _ byM, then-le _ _ (lowest-first n k M i x (minimal .answer .member .pair)))

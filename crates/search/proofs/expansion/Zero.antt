@@ -14,16 +14,17 @@ use Rattle.numbers.specs.Bytes.{at}
 use Rattle.numbers.proofs.Sums.{fold-zero}
 use Rattle.numbers.proofs.Tables.{tabulate-zero}
 use Rattle.algebra.proofs.Value.{value-zero}
+use Rattle.expansions.specs.declared.kinds.Class.{Class}
 use Rattle.expansions.specs.declared.families.Family.{Family}
 use Rattle.expansions.specs.declared.families.Family.the-variants.{One, Two}
 use Rattle.expansions.specs.Rules.{costOf, tieOf}
 use Rattle.expansions.specs.Costs.{counted, literals}
-use Rattle.expansions.specs.Answers.{IsAnswer, answerInverted, answerMixed, answerFixed, answerPolarity, answerCoefficient}
+use Rattle.expansions.specs.Answers.{IsAnswer, answerInverted, answerMixed, answerFixed, answerChoice, answerCoefficient}
 use Rattle.search.specs.Expansion.{answerExpansion, emptyExpansion, searchable, searched}
 use Rattle.expansions.proofs.Costs.{products-zero}
 use Rattle.expansions.proofs.Least.{then-from}
 use Rattle.expansions.proofs.Lowest.{lowest-member, lowest-first}
-use Rattle.expansions.proofs.Answers.{answer-polarity-zero, answer-coefficient-zero, answer-only}
+use Rattle.expansions.proofs.Answers.{answer-choice-zero, answer-coefficient-zero, answer-only}
 use Rattle.search.proofs.answer.Searchable.{allowed-sizes}
 
 -- ---- no product
@@ -42,47 +43,48 @@ none-tied Two p l = omega arith
 
 -- ---- the answer
 
-module _ (F : Family) (n k : ℕ) (f : ℕ → ℕ) (hn : n ≤ 8) (hk : k ≤ n) (zeros : (p : ℕ) → p < 2 ^ n → f p ≡ 0) where
-  zero-answer : IsAnswer F n k f 0 (2 ^ k - 1) 0 (λ j. 0) (λ t. 0)
+module _ (C : Class) (F : Family) (n k : ℕ) (f : ℕ → ℕ) (hn : n ≤ 8) (hk : k ≤ n) (zeros : (p : ℕ) → p < 2 ^ n → f p ≡ 0) where
+  zero-answer : IsAnswer C F n k f 0 (2 ^ k - 1) 0 (λ j. 0) (λ t. 0)
   zero-answer =
       record {
-        member = lowest-member n k hk;
+        member = lowest-member C n k hk;
         gives = λ p h. xor-zero-r _ ∙ value-zero n _ p ∙ sym (zeros p h);
-        first = λ v M i φ c member gives.
+        first = λ v M i x c member gives.
             then-from _ _ (rw (products-zero n, literals-zero n) (none-cheaper F _ _))
-            (λ e. then-from _ _ (rw (products-zero n, literals-zero n) (none-tied F _ _)) (λ e. then-from 0 v (omega arith) (λ e. lowest-first n k M i φ member)));
+            (λ e. then-from _ _ (rw (products-zero n, literals-zero n) (none-tied F _ _)) (λ e. then-from 0 v (omega arith) (λ e. lowest-first n k M i x (member .pair))));
       }
 
-  zero-only : (0 ≡ answerInverted F n k f) × (2 ^ k - 1 ≡ answerMixed F n k f) × (0 ≡ answerFixed F n k f)
-      × ((j : ℕ) → j < 2 ^ (n - k) → 0 ≡ answerPolarity F n k f j) × ((t : ℕ) → t < 2 ^ n → 0 ≡ answerCoefficient F n k f t)
-  zero-only = answer-only F n k f hn hk (λ p h. rw (zeros p h) (pow-pos 8)) 0 (2 ^ k - 1) 0 (λ j. 0) (λ t. 0) zero-answer
+  zero-only : (0 ≡ answerInverted C F n k f) × (2 ^ k - 1 ≡ answerMixed C F n k f) × (0 ≡ answerFixed C F n k f)
+      × ((j : ℕ) → j < 2 ^ (n - k) → 0 ≡ answerChoice C F n k f j) × ((t : ℕ) → t < 2 ^ n → 0 ≡ answerCoefficient C F n k f t)
+  zero-only = answer-only C F n k f hn hk (λ p h. rw (zeros p h) (pow-pos 8)) 0 (2 ^ k - 1) 0 (λ j. 0) (λ t. 0) zero-answer
 
-  polarities : answerPolarity F n k f ≡ (λ j. 0)
-  polarities = fun-ext (λ j. go j (decLt j (2 ^ (n - k))))
+  choices : answerChoice C F n k f ≡ (λ j. 0)
+  choices = fun-ext (λ j. go j (decLt j (2 ^ (n - k))))
     where
-      go : (j : ℕ) → Dec (j < 2 ^ (n - k)) → answerPolarity F n k f j ≡ 0
+      go : (j : ℕ) → Dec (j < 2 ^ (n - k)) → answerChoice C F n k f j ≡ 0
       go j (yes h) = sym (zero-only .3 j h)
-      go j (no h) = answer-polarity-zero F n k f j (omega arith)
+      go j (no h) = answer-choice-zero C F n k f j (omega arith)
 
-  coefficients : answerCoefficient F n k f ≡ (λ t. 0)
+  coefficients : answerCoefficient C F n k f ≡ (λ t. 0)
   coefficients = fun-ext (λ t. go t (decLt t (2 ^ n)))
     where
-      go : (t : ℕ) → Dec (t < 2 ^ n) → answerCoefficient F n k f t ≡ 0
+      go : (t : ℕ) → Dec (t < 2 ^ n) → answerCoefficient C F n k f t ≡ 0
       go t (yes h) = sym (zero-only .4 t h)
-      go t (no h) = answer-coefficient-zero F n k f t (omega arith)
+      go t (no h) = answer-coefficient-zero C F n k f t (omega arith)
 
-  pub answer-of-zero : answerExpansion F n k f ≡ emptyExpansion k
+  pub answer-of-zero : answerExpansion C F n k f ≡ emptyExpansion k
   unfolding answerExpansion emptyExpansion
   answer-of-zero =
       let small : min k 8 ≡ k = omega arith in
-      rw (coefficients, polarities, ← zero-only .0, ← zero-only .1, ← zero-only .2, products-zero n, literals-zero n, small, tabulate-zero 256)
+      rw (coefficients, choices, ← zero-only .0, ← zero-only .1, ← zero-only .2, products-zero n, literals-zero n, small, tabulate-zero 256)
 
 -- ---- what the search hands up
 
-pub searched-of-zero : (F : Family) (n m k : ℕ) (table : List ℕ) → ((p : ℕ) → p < 2 ^ n → at table p ≡ 0) → searched F n m k table ≡ emptyExpansion k
+pub searched-of-zero : (C : Class) (F : Family) (n m k : ℕ) (table : List ℕ) → ((p : ℕ) → p < 2 ^ n → at table p ≡ 0)
+    → searched C F n m k table ≡ emptyExpansion k
 unfolding searched
-searched-of-zero F n m k table zeros = go (searchable n m k table) refl
+searched-of-zero C F n m k table zeros = go (searchable C n m k table) refl
   where
-    go : (b : Bool) → searchable n m k table ≡ b → cond b (answerExpansion F n k (at table)) (emptyExpansion k) ≡ emptyExpansion k
-    go true e = let sizes = allowed-sizes n m k table e F in answer-of-zero F n k (at table) (sizes .inputs) (sizes .within) zeros
+    go : (b : Bool) → searchable C n m k table ≡ b → cond b (answerExpansion C F n k (at table)) (emptyExpansion k) ≡ emptyExpansion k
+    go true e = let sizes = allowed-sizes C n m k table e F in answer-of-zero C F n k (at table) (sizes .inputs) (sizes .within) zeros
     go false e = refl

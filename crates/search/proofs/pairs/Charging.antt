@@ -1,81 +1,87 @@
--- The loop over the blocks of a pair. It holds what the blocks passed cost, each under its first least polarity (`BlocksSummed`); at the end
+-- The loop over the blocks of a pair. It holds what the blocks passed cost, each under its first least choice (`BlocksSummed`); at the end
 -- that is the pair's charge (`blocks-all`).
-use mathlib.Core.Path.{_≡_, ap, _∙_}
+use mathlib.Core.Path.{_≡_, sym, ap, _∙_}
 use Prim.Native.Nat.{ℕ, suc, _+_, _-_, _*_, _%_, _^_, _≤_, _<_}
+use native.Mathlib.Nat.{add-zero}
 use native.Mathlib.Numerals.{add-one}
 use native.Mathlib.Omega.{arith}
-use lib.Pow.{pow-pos, pow-mono}
+use lib.Pow.{pow-pos}
 use Rattle.numbers.specs.Sums.{foldBelow, sumBelow}
 use Rattle.numbers.proofs.Shifts.{one-shifted, points-le}
-use Rattle.expansions.specs.Answers.{leastPolarity, pairCharge}
+use Rattle.expansions.specs.Classes.{choices}
+use Rattle.expansions.specs.Answers.{leastChoice, pairCharge}
 use Rattle.expansions.proofs.Costs.{sum-le}
-use Rattle.expansions.proofs.Minimal.{polarity-first}
+use Rattle.expansions.proofs.BlockTable.{choices-held}
+use Rattle.expansions.proofs.Classes.{choices-some}
+use Rattle.expansions.proofs.Minimal.{choice-first}
 use Rattle.lanes.specs.inner.Sizes.{Limits}
-use Rattle.charges.specs.inner.Charges.{IsCheapest, chargeFrom, plainFrom}
+use Rattle.charges.specs.inner.Charges.{IsCheapest, chargeFrom, allFrom}
 use Rattle.lanes.specs.declared.sizes.Sizes.{Sizes}
 use Rattle.charges.specs.declared.cheapest.Cheapest.{Cheapest}
+use Rattle.search.specs.inner.Search.{leastFrom, pairFrom}
+use Rattle.lanes.proofs.expand.Room.{few}
 use Rattle.charges.proofs.cheapest.Used.{mostCharge, chargeFrom-le}
-use Rattle.charges.proofs.cheapest.BlockCosts.{other-cost, other-polarity}
+use Rattle.charges.proofs.cheapest.BlockCosts.{other-cost, other-choice}
 
--- what block j costs under its first least polarity
-abbrev leastFrom : Sizes → (ℕ → ℕ) → ℕ → ℕ
-leastFrom s lanes j = chargeFrom (s .family) lanes j (leastPolarity (s .k) (chargeFrom (s .family) lanes j))
-
-leastFrom-le : (s : Sizes) (lanes : ℕ → ℕ) (j : ℕ) → s .k ≤ 3 → j < 256 → leastFrom s lanes j ≤ mostCharge
-leastFrom-le s lanes j hk hj =
-    let eight : 2 ^ s .k ≤ 2 ^ 3 = pow-mono hk in
-    chargeFrom-le (s .family) lanes j _ hj (omega (arith, polarity-first (s .k) (chargeFrom (s .family) lanes j) .below))
+leastFrom-le : (s : Sizes) (lanes : ℕ → ℕ) (j : ℕ) → Limits s → j < 256 → leastFrom s lanes j ≤ mostCharge
+leastFrom-le s lanes j limits hj =
+    let cost = chargeFrom (s .class) (s .k) (s .family) lanes j in
+    let x = leastChoice (choices (s .class) (s .k)) cost in
+    chargeFrom-le (s .class) (s .k) (s .family) lanes j x hj
+    (choices-held (s .class) (s .k) x (few s limits) (choice-first (choices (s .class) (s .k)) (choices-some (s .class) (s .k)) cost .below))
 
 -- the blocks below j have been passed, and cost what block 0 costs and 256 times `others`
-pub record BlocksSummed (s : Sizes) (lanes : ℕ → ℕ) (count first others j : ℕ) : Type 0 where
+pub record BlocksSummed (s : Sizes) (lanes : ℕ → ℕ) (count others j : ℕ) : Type 0 where
   pub sizes : Limits s
   pub all : count ≡ 2 ^ (s .n - s .k)
   pub some : 0 < j
   pub within : j ≤ count
-  pub total : first + others * 256 ≡ sumBelow j (leastFrom s lanes)
+  pub total : leastFrom s lanes 0 + others * 256 ≡ sumBelow j (leastFrom s lanes)
 
 -- block 0 has been passed
-pub blocks-first : (s : Sizes) (lanes : ℕ → ℕ) (least : Cheapest) → Limits s → IsCheapest (s .k) (chargeFrom (s .family) lanes 0) least
-    → BlocksSummed s lanes (1 * 2 ^ (s .n - s .k) % 2 ^ 64) (least .charge) 0 1
+pub blocks-first : (s : Sizes) (lanes : ℕ → ℕ) → Limits s → BlocksSummed s lanes (1 * 2 ^ (s .n - s .k) % 2 ^ 64) 0 1
 unfolding foldBelow
-blocks-first s lanes least l cheapest =
+blocks-first s lanes l =
     let all : 1 * 2 ^ (s .n - s .k) % 2 ^ 64 ≡ 2 ^ (s .n - s .k) = one-shifted (s .n - s .k) (omega (arith, l .inputs)) in
-    record { sizes = l; all = all; some = omega arith; within = omega (arith, all, pow-pos (s .n - s .k)); total = omega (arith, cheapest .charge) }
+    record { sizes = l; all = all; some = omega arith; within = omega (arith, all, pow-pos (s .n - s .k)); total = omega arith }
 
 -- no sum of as many blocks as there can be wraps
 summed-lt : (s : Sizes) (lanes : ℕ → ℕ) (j : ℕ) → Limits s → j ≤ 256 → sumBelow j (leastFrom s lanes) < 2 ^ 32
 summed-lt s lanes j l h =
-    omega (arith, sum-le j mostCharge (leastFrom s lanes) (λ i g. leastFrom-le s lanes i (l .mixed) (omega arith)))
+    omega (arith, sum-le j mostCharge (leastFrom s lanes) (λ i g. leastFrom-le s lanes i l (omega arith)))
 
-module _ (s : Sizes) (lanes : ℕ → ℕ) (count first others j : ℕ) (turn : j < count) (summed : BlocksSummed s lanes count first others j) where
+module _ (s : Sizes) (lanes : ℕ → ℕ) (count others j : ℕ) (turn : j < count) (summed : BlocksSummed s lanes count others j) where
   pub blocks-few : j < 256
   blocks-few = omega (arith, summed .all, points-le (s .n - s .k) (omega (arith, summed .sizes .inputs)))
 
-  module _ (least : Cheapest) (cheapest : IsCheapest (s .k) (plainFrom (s .family) lanes j) least) where
-    next : first + (others + least .charge) * 256 ≡ sumBelow (suc j) (leastFrom s lanes)
+  module _ (charge : ℕ) (one : charge * 256 ≡ leastFrom s lanes j) where
+    next : leastFrom s lanes 0 + (others + charge) * 256 ≡ sumBelow (suc j) (leastFrom s lanes)
     unfolding foldBelow
-    next =
-        let same = other-polarity (s .family) lanes (s .k) j (summed .some) in
-        let one : least .charge * 256 + 0 ≡ leastFrom s lanes j =
-        ap (λ (x : ℕ). x * 256 + 0) (cheapest .charge ∙ ap (plainFrom (s .family) lanes j) same)
-        ∙ other-cost (s .family) lanes j (leastPolarity (s .k) (chargeFrom (s .family) lanes j)) (summed .some) in
-        omega (arith, summed .total, one)
+    next = omega (arith, summed .total)
 
-    pub blocks-lt : others + least .charge < 2 ^ 32
+    pub blocks-lt : others + charge < 2 ^ 32
     blocks-lt = omega (arith, next, summed-lt s lanes (suc j) (summed .sizes) blocks-few)
 
-    pub blocks-more : BlocksSummed s lanes count first (others + least .charge) (j + 1)
+    pub blocks-more : BlocksSummed s lanes count (others + charge) (j + 1)
     blocks-more =
         record { sizes = summed .sizes; all = summed .all; some = omega arith; within = omega arith; total = rw (add-one j) next }
 
-module _ (s : Sizes) (lanes : ℕ → ℕ) (count first others j : ℕ) (h : count ≤ j) (b : BlocksSummed s lanes count first others j) where
-  pub blocks-all : first + others * 256 ≡ pairCharge (s .n) (s .k) (chargeFrom (s .family) lanes)
-  unfolding pairCharge
-  blocks-all =
-      let e : j ≡ 2 ^ (s .n - s .k) = omega (arith, b .all, b .within) in
-      b .total ∙ ap (λ (x : ℕ). sumBelow x (leastFrom s lanes)) e
+pub blocks-all : (s : Sizes) (lanes : ℕ → ℕ) (count others j : ℕ) → count ≤ j → BlocksSummed s lanes count others j
+    → leastFrom s lanes 0 + others * 256 ≡ pairFrom s lanes
+unfolding pairCharge
+blocks-all s lanes count others j h b =
+    let e : j ≡ 2 ^ (s .n - s .k) = omega (arith, b .all, b .within) in
+    b .total ∙ ap (λ (x : ℕ). sumBelow x (leastFrom s lanes)) e
 
-  pub whole-lt : first + others * 256 < 2 ^ 32
-  whole-lt =
-      let few : j ≤ 256 = omega (arith, b .all, b .within, points-le (s .n - s .k) (omega (arith, b .sizes .inputs))) in
-      omega (arith, b .total, summed-lt s lanes j (b .sizes) few)
+pub pairFrom-lt : (s : Sizes) (lanes : ℕ → ℕ) → Limits s → pairFrom s lanes < 2 ^ 32
+unfolding pairCharge
+pairFrom-lt s lanes l = summed-lt s lanes (2 ^ (s .n - s .k)) l (points-le (s .n - s .k) (omega (arith, l .inputs)))
+
+-- what a block other than block 0 costs, from the charge of all its terms
+pub other-least : (s : Sizes) (lanes : ℕ → ℕ) (j : ℕ) (least : Cheapest) → 0 < j
+    → IsCheapest (choices (s .class) (s .k)) (allFrom (s .class) (s .k) (s .family) lanes j) least → least .charge * 256 ≡ leastFrom s lanes j
+other-least s lanes j least some cheapest =
+    let same = other-choice (s .class) (s .k) (s .family) lanes (choices (s .class) (s .k)) j (choices-some (s .class) (s .k)) some in
+    sym (add-zero (least .charge * 256))
+    ∙ ap (λ (x : ℕ). x * 256 + 0) (cheapest .charge ∙ ap (allFrom (s .class) (s .k) (s .family) lanes j) same)
+    ∙ other-cost (s .class) (s .k) (s .family) lanes j (leastChoice (choices (s .class) (s .k)) (chargeFrom (s .class) (s .k) (s .family) lanes j)) some

@@ -11,9 +11,11 @@ use lib.Dec.{T, ltb, ltb→lt, nltb→le}
 use lib.Pow.{high, low, shl-exact, pow-mono}
 use lib.Arith.{digits-lt}
 use Rattle.numbers.proofs.Tests.{same-test}
+use Rattle.expansions.specs.declared.kinds.Class.{Class}
 use Rattle.expansions.specs.declared.families.Family.{Family}
 use Rattle.expansions.specs.Rules.{ruleOf}
 use Rattle.expansions.specs.Least.{firstLeast}
+use Rattle.expansions.specs.Classes.{choices}
 use Rattle.expansions.specs.Answers.{validPair, pairCharge, blockCharge}
 use Rattle.expansions.specs.Split.{gather, spread, outside}
 use Rattle.expansions.proofs.Least.{leading-skip, leading-take, leading-keep}
@@ -24,39 +26,39 @@ use Rattle.lanes.proofs.expand.Held.{fixed-lt}
 use Rattle.search.specs.inner.Search.{Leads, ledBy, pairValid, pairCost}
 use Rattle.search.specs.declared.pairs.Leader.{Leader}
 
-pub leads-none : (F : Family) (n k : ℕ) (f : ℕ → ℕ) → Leads F n k f 0 (record { charge = 4294967295; pair = 0 })
+pub leads-none : (C : Class) (F : Family) (n k : ℕ) (f : ℕ → ℕ) → Leads C F n k f 0 (record { charge = 4294967295; pair = 0 })
 unfolding firstLeast
-leads-none F n k f = refl
+leads-none C F n k f = refl
 
 -- the number of a pair tells the pair
 pair-valid : (n k M i : ℕ) → i < 2 ^ n → pairValid n k (M * 2 ^ n + i) ≡ validPair n k M i
 pair-valid n k M i h = ap₂ (validPair n k) (high M n h) (low M n h)
 
-pair-cost : (F : Family) (n k M i : ℕ) (f : ℕ → ℕ) → i < 2 ^ n → pairCost F n k f (M * 2 ^ n + i) ≡ pairCharge n k (blockCharge (ruleOf F) n k f M i)
-pair-cost F n k M i f h = ap₂ (λ (x y : ℕ). pairCharge n k (blockCharge (ruleOf F) n k f x y)) (high M n h) (low M n h)
+pair-cost : (C : Class) (F : Family) (n k M i : ℕ) (f : ℕ → ℕ) → i < 2 ^ n → pairCost C F n k f (M * 2 ^ n + i) ≡ pairCharge n k (choices C k) (blockCharge C (ruleOf F) n k f M i)
+pair-cost C F n k M i f h = ap₂ (λ (x y : ℕ). pairCharge n k (choices C k) (blockCharge C (ruleOf F) n k f x y)) (high M n h) (low M n h)
 
 -- a run of d numbers that are no pairs
-leads-run : (F : Family) (n k M a d : ℕ) (f : ℕ → ℕ) (l : Leader) → a + d ≤ 2 ^ n → ((i : ℕ) → a ≤ i → i < a + d → T (validPair n k M i) → ⊥)
-    → Leads F n k f (M * 2 ^ n + a) l → Leads F n k f (M * 2 ^ n + (a + d)) l
-leads-run F n k M a zero f l h z b = rw (add-zero a) b
-leads-run F n k M a (suc d) f l h z b =
+leads-run : (C : Class) (F : Family) (n k M a d : ℕ) (f : ℕ → ℕ) (l : Leader) → a + d ≤ 2 ^ n → ((i : ℕ) → a ≤ i → i < a + d → T (validPair n k M i) → ⊥)
+    → Leads C F n k f (M * 2 ^ n + a) l → Leads C F n k f (M * 2 ^ n + (a + d)) l
+leads-run C F n k M a zero f l h z b = rw (add-zero a) b
+leads-run C F n k M a (suc d) f l h z b =
     let none = same-test (validPair n k M (a + d)) false (z (a + d) (omega arith) (omega arith)) (λ t. absurd t) in
     rw (add-suc a d, add-suc (M * 2 ^ n) (a + d))
-    (leading-skip 4294967295 (pairValid n k) (pairCost F n k f) (M * 2 ^ n + (a + d)) (l .charge) (l .pair)
-    (leads-run F n k M a d f l (omega arith) (λ i p q. z i p (omega arith)) b) (pair-valid n k M (a + d) (omega arith) ∙ none))
+    (leading-skip 4294967295 (pairValid n k) (pairCost C F n k f) (M * 2 ^ n + (a + d)) (l .charge) (l .pair)
+    (leads-run C F n k M a d f l (omega arith) (λ i p q. z i p (omega arith)) b) (pair-valid n k M (a + d) (omega arith) ∙ none))
 
 -- no pair from a up to b
-leads-to : (F : Family) (n k M a b : ℕ) (f : ℕ → ℕ) (l : Leader) → a ≤ b → b ≤ 2 ^ n → ((i : ℕ) → a ≤ i → i < b → T (validPair n k M i) → ⊥)
-    → Leads F n k f (M * 2 ^ n + a) l → Leads F n k f (M * 2 ^ n + b) l
-leads-to F n k M a b f l h q z led =
+leads-to : (C : Class) (F : Family) (n k M a b : ℕ) (f : ℕ → ℕ) (l : Leader) → a ≤ b → b ≤ 2 ^ n → ((i : ℕ) → a ≤ i → i < b → T (validPair n k M i) → ⊥)
+    → Leads C F n k f (M * 2 ^ n + a) l → Leads C F n k f (M * 2 ^ n + b) l
+leads-to C F n k M a b f l h q z led =
     let e : a + (b - a) ≡ b = omega arith in
-    rw e at (leads-run F n k M a (b - a) f l (omega arith) (λ i p r. z i p (omega arith)) led)
+    rw e at (leads-run C F n k M a (b - a) f l (omega arith) (λ i p r. z i p (omega arith)) led)
 
 -- no pair has M where M has another number of inputs
-pub leads-other : (F : Family) (n k M : ℕ) (f : ℕ → ℕ) (l : Leader) → (onesIn n M ≡ k → ⊥) → Leads F n k f (M * 2 ^ n) l → Leads F n k f (suc M * 2 ^ n) l
-leads-other F n k M f l z b =
+pub leads-other : (C : Class) (F : Family) (n k M : ℕ) (f : ℕ → ℕ) (l : Leader) → (onesIn n M ≡ k → ⊥) → Leads C F n k f (M * 2 ^ n) l → Leads C F n k f (suc M * 2 ^ n) l
+leads-other C F n k M f l z b =
     let e : suc M * 2 ^ n ≡ M * 2 ^ n + 2 ^ n = omega (arith, suc-mul M (2 ^ n)) in
-    rw e (leads-to F n k M 0 (2 ^ n) f l (omega arith) (omega arith) (λ i p q t. z (valid-size n k M i t)) (rw (add-zero (M * 2 ^ n)) b))
+    rw e (leads-to C F n k M 0 (2 ^ n) f l (omega arith) (omega arith) (λ i p q t. z (valid-size n k M i t)) (rw (add-zero (M * 2 ^ n)) b))
 
 -- ---- the pairs of one M
 
@@ -66,11 +68,11 @@ past n M zero = 0
 past n M (suc w) = suc (spread n (outside n M) w)
 
 -- the leader of the pairs of a lower M, and of those of M with a polarity below w
-abbrev pub Tried : (F : Family) (n k M : ℕ) → (ℕ → ℕ) → ℕ → Leader → Type 0
-Tried F n k M f w l = Leads F n k f (M * 2 ^ n + past n M w) l
+abbrev pub Tried : (C : Class) (F : Family) (n k M : ℕ) → (ℕ → ℕ) → ℕ → Leader → Type 0
+Tried C F n k M f w l = Leads C F n k f (M * 2 ^ n + past n M w) l
 
-module _ (F : Family) (n k M : ℕ) (f : ℕ → ℕ) (l : Leader) where
-  pub tried-none : Leads F n k f (M * 2 ^ n) l → Tried F n k M f 0 l
+module _ (C : Class) (F : Family) (n k M : ℕ) (f : ℕ → ℕ) (l : Leader) where
+  pub tried-none : Leads C F n k f (M * 2 ^ n) l → Tried C F n k M f 0 l
   tried-none b = rw (add-zero (M * 2 ^ n)) b
 
   module _ (size : onesIn n M ≡ k) where
@@ -87,23 +89,23 @@ module _ (F : Family) (n k M : ℕ) (f : ℕ → ℕ) (l : Leader) where
     past-end zero = omega arith
     past-end (suc w) = spread-lt n (outside n M) w
 
-    pub tried-all : (w : ℕ) → w ≡ 2 ^ (n - k) → Tried F n k M f w l → Leads F n k f (suc M * 2 ^ n) l
+    pub tried-all : (w : ℕ) → w ≡ 2 ^ (n - k) → Tried C F n k M f w l → Leads C F n k f (suc M * 2 ^ n) l
     tried-all w e b =
         let next : suc M * 2 ^ n ≡ M * 2 ^ n + 2 ^ n = omega (arith, suc-mul M (2 ^ n)) in
         rw next
-        (leads-to F n k M (past n M w) (2 ^ n) f l (past-end w) (omega arith)
+        (leads-to C F n k M (past n M w) (2 ^ n) f l (past-end w) (omega arith)
         (λ i p q t. omega (arith, left w i (omega arith) p q t, fixed-lt n k M i size)) b)
 
     -- one pair more, of the charge c
-    module _ (w c : ℕ) (h : w < 2 ^ (n - k)) (cost : c ≡ pairCharge n k (blockCharge (ruleOf F) n k f M (spread n (outside n M) w)))
-        (bound : c < 4294967295) (b : Tried F n k M f w l) where
-      led : Leads F n k f (M * 2 ^ n + spread n (outside n M) w) l
+    module _ (w c : ℕ) (h : w < 2 ^ (n - k)) (cost : c ≡ pairCharge n k (choices C k) (blockCharge C (ruleOf F) n k f M (spread n (outside n M) w)))
+        (bound : c < 4294967295) (b : Tried C F n k M f w l) where
+      led : Leads C F n k f (M * 2 ^ n + spread n (outside n M) w) l
       led =
-          leads-to F n k M (past n M w) (spread n (outside n M) w) f l (past-le w h) (omega (arith, spread-lt n (outside n M) w))
+          leads-to C F n k M (past n M w) (spread n (outside n M) w) f l (past-le w h) (omega (arith, spread-lt n (outside n M) w))
           (λ i p q t. let q′ : i < 2 ^ n = omega (arith, spread-lt n (outside n M) w) in
           omega (arith, spread-above n M w i q′ (valid-clear n k M i t) (left w i (omega arith) p q′ t))) b
 
-      pub tried-next : Tried F n k M f (suc w) (ledBy c (M * 2 ^ n + spread n (outside n M) w) l)
+      pub tried-next : Tried C F n k M f (suc w) (ledBy c (M * 2 ^ n + spread n (outside n M) w) l)
       unfolding ledBy
       tried-next = rw (add-suc (M * 2 ^ n) (spread n (outside n M) w)) (go (ltb c (l .charge)) refl)
         where
@@ -114,16 +116,16 @@ module _ (F : Family) (n k M : ℕ) (f : ℕ → ℕ) (l : Leader) where
           is-pair = pair-valid n k M i (spread-lt n (outside n M) w)
               ∙ same-test _ true (λ t. tt) (λ t. valid-from n k M i size (gather-spread-outside n M w))
 
-          its-cost : c ≡ pairCost F n k f (M * 2 ^ n + i)
-          its-cost = cost ∙ sym (pair-cost F n k M i f (spread-lt n (outside n M) w))
+          its-cost : c ≡ pairCost C F n k f (M * 2 ^ n + i)
+          its-cost = cost ∙ sym (pair-cost C F n k M i f (spread-lt n (outside n M) w))
 
           go : (t : Bool) → ltb c (l .charge) ≡ t
-              → Leads F n k f (suc (M * 2 ^ n + i)) (cond t (record { charge = c; pair = M * 2 ^ n + i }) l)
+              → Leads C F n k f (suc (M * 2 ^ n + i)) (cond t (record { charge = c; pair = M * 2 ^ n + i }) l)
           go true e =
-              leading-take 4294967295 (pairValid n k) (pairCost F n k f) (M * 2 ^ n + i) (l .charge) (l .pair) led c is-pair its-cost
+              leading-take 4294967295 (pairValid n k) (pairCost C F n k f) (M * 2 ^ n + i) (l .charge) (l .pair) led c is-pair its-cost
               (ltb→lt c (l .charge) (subst T (sym e) tt))
           go false e =
-              leading-keep 4294967295 (pairValid n k) (pairCost F n k f) (M * 2 ^ n + i) (l .charge) (l .pair) led c is-pair its-cost bound
+              leading-keep 4294967295 (pairValid n k) (pairCost C F n k f) (M * 2 ^ n + i) (l .charge) (l .pair) led c is-pair its-cost bound
               (nltb→le c (l .charge) (subst (λ (x : Bool). T (not x)) (sym e) tt))
 
 -- ---- the number of a pair, as the code computes it

@@ -7,6 +7,7 @@ use native.Mathlib.Omega.{arith}
 use lib.ListN.{length}
 use Rattle.numbers.specs.Bytes.{at}
 use Rattle.expansions.specs.Rules.{ruleOf}
+use Rattle.expansions.specs.Classes.{choices}
 use Rattle.expansions.specs.Answers.{pairCharge, blockCharge}
 use Rattle.expansions.specs.Split.{gather, spread, outside}
 use Rattle.expansions.proofs.Split.{gather-zero, gather-spread, ones-others}
@@ -14,8 +15,7 @@ use Rattle.charges.proofs.Held.{held-pair, pairCharge-lt}
 use Rattle.search.proofs.pairs.Leading.{Tried, tried-none, tried-next, tried-all}
 use Rattle.lanes.specs.inner.Lanes.{lanesUnder, blockLanes, placesByte}
 use Rattle.lanes.specs.inner.Sizes.{Limits, MixedSet}
-use Rattle.charges.specs.inner.Charges.{chargeFrom}
-use Rattle.search.specs.inner.Search.{Given, ledBy, Leads}
+use Rattle.search.specs.inner.Search.{Given, pairFrom, ledBy, Leads}
 use Rattle.lanes.specs.declared.sizes.Sizes.{Sizes}
 use Rattle.search.specs.declared.pairs.Leader.{Leader}
 
@@ -24,28 +24,28 @@ pub record Trying (s : Sizes) (M : ℕ) (f : ℕ → ℕ) (count w : ℕ) (lanes
   pub within : w ≤ count
   pub long : length lanes ≡ 8 * 2 ^ (s .n - s .k)
   pub held : w < count → lanes ≡ blockLanes (s .n) (s .k) M w f
-  pub led : Tried (s .family) (s .n) (s .k) M f w l
+  pub led : Tried (s .class) (s .family) (s .n) (s .k) M f w l
 
 pub trying-none : (s : Sizes) (M : ℕ) (f : ℕ → ℕ) (count : ℕ) (lanes : List ℕ) (l : Leader) → count ≡ 2 ^ (s .n - s .k)
     → length lanes ≡ 8 * 2 ^ (s .n - s .k) → lanes ≡ blockLanes (s .n) (s .k) M (gather (s .n) (outside (s .n) M) 0) f
-    → Leads (s .family) (s .n) (s .k) f (M * 2 ^ s .n) l → Trying s M f count 0 lanes l
+    → Leads (s .class) (s .family) (s .n) (s .k) f (M * 2 ^ s .n) l → Trying s M f count 0 lanes l
 trying-none s M f count lanes l all long held led =
     record {
       all = all;
       within = omega arith;
       long = long;
       held = λ h. held ∙ ap (λ (w : ℕ). blockLanes (s .n) (s .k) M w f) (gather-zero (s .n) (outside (s .n) M));
-      led = tried-none (s .family) (s .n) (s .k) M f l led;
+      led = tried-none (s .class) (s .family) (s .n) (s .k) M f l led;
     }
 
 module _ (s : Sizes) (M : ℕ) (table : List ℕ) (count w : ℕ) (lanes : List ℕ) (l : Leader) (set : MixedSet s M)
     (t : Trying s M (at table) count w lanes l) where
-  pub trying-all : count ≤ w → Leads (s .family) (s .n) (s .k) (at table) (suc M * 2 ^ s .n) l
-  trying-all h = tried-all (s .family) (s .n) (s .k) M (at table) l (set .size) w (omega (arith, t .all, t .within)) (t .led)
+  pub trying-all : count ≤ w → Leads (s .class) (s .family) (s .n) (s .k) (at table) (suc M * 2 ^ s .n) l
+  trying-all h = tried-all (s .class) (s .family) (s .n) (s .k) M (at table) l (set .size) w (omega (arith, t .all, t .within)) (t .led)
 
   -- one polarity more
   pub trying-next : Limits s → Given (s .n) table → w < count → (lanes′ : List ℕ) (l′ : Leader)
-      → l′ ≡ ledBy (pairCharge (s .n) (s .k) (chargeFrom (s .family) (at lanes))) (M * 2 ^ s .n + spread (s .n) (outside (s .n) M) w) l
+      → l′ ≡ ledBy (pairFrom s (at lanes)) (M * 2 ^ s .n + spread (s .n) (outside (s .n) M) w) l
       → length lanes′ ≡ length lanes
       → ((g : ℕ → ℕ → ℕ) → suc w < 2 ^ (s .n - s .k) → lanes ≡ lanesUnder (s .n - s .k) w g → lanes′ ≡ lanesUnder (s .n - s .k) (suc w) g)
       → Trying s M (at table) count (w + 1) lanes′ l′
@@ -56,7 +56,7 @@ module _ (s : Sizes) (M : ℕ) (table : List ℕ) (count w : ℕ) (lanes : List 
         within = h;
         long = same ∙ t .long;
         held = λ h′. next (placesByte (s .n) (s .k) M (at table)) (omega (arith, t .all)) (t .held h);
-        led = rw e (tried-next (s .family) (s .n) (s .k) M (at table) l (set .size) w _ below cost
+        led = rw e (tried-next (s .class) (s .family) (s .n) (s .k) M (at table) l (set .size) w _ below cost
             (omega (arith, cost, pairCharge-lt s (at table) M i limits set (λ p q. given .bytes p))) (t .led));
       }
     where
@@ -69,6 +69,6 @@ module _ (s : Sizes) (M : ℕ) (table : List ℕ) (count w : ℕ) (lanes : List 
       back : gather (s .n) (outside (s .n) M) i ≡ w
       back = gather-spread (s .n) (outside (s .n) M) w (rw (ones-others (s .n) (s .k) M (set .size)) below)
 
-      cost : pairCharge (s .n) (s .k) (chargeFrom (s .family) (at lanes)) ≡ pairCharge (s .n) (s .k) (blockCharge (ruleOf (s .family)) (s .n) (s .k) (at table) M i)
+      cost : pairFrom s (at lanes) ≡ pairCharge (s .n) (s .k) (choices (s .class) (s .k)) (blockCharge (s .class) (ruleOf (s .family)) (s .n) (s .k) (at table) M i)
       cost = held-pair s M i (at table) lanes limits (λ p q. given .bytes p) set
           (t .held h ∙ ap (λ (x : ℕ). blockLanes (s .n) (s .k) M x (at table)) (sym back))

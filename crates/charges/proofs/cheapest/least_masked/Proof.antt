@@ -6,7 +6,7 @@ use Prim.Native.Nat.{ℕ, _+_, _-_, _*_, _%_, _^_}
 use native.Mathlib.Omega.{arith}
 use lib.Bits.{mask-lt}
 use Rattle.numbers.specs.Words.{byte}
-use Rattle.charges.proofs.cheapest.Polarities.{SumsTried, Shifted, count-pos, shifted-first, shifted-byte, shifted-more, tried-first, tried-take, tried-keep, tried-all, pair-lt}
+use Rattle.charges.proofs.cheapest.Choices.{SumsTried, Shifted, count-pos, shifted-first, shifted-byte, shifted-more, tried-first, tried-take, tried-keep, tried-all, pair-lt}
 use Rattle.charges.proofs.cheapest.least_masked.Statement.{statement}
 use Rattle.charges.proofs.cheapest.least_masked.Tie as tie
 

@@ -7,7 +7,7 @@ use native.Mathlib.Omega.{arith}
 use lib.Bits.{mask-lt, and-mask}
 use Rattle.numbers.specs.Words.{byte}
 use Rattle.numbers.proofs.Words.{byte-zero, byte-lt}
-use Rattle.charges.proofs.cheapest.Polarities.{SumsTried, Shifted, count-pos, shifted-first, shifted-byte, shifted-more, tried-first, tried-take, tried-keep, tried-all}
+use Rattle.charges.proofs.cheapest.Choices.{SumsTried, Shifted, count-pos, shifted-first, shifted-byte, shifted-more, tried-first, tried-take, tried-keep, tried-all}
 use Rattle.charges.proofs.cheapest.least_sum.Statement.{statement}
 use Rattle.charges.proofs.cheapest.least_sum.Tie as tie
 

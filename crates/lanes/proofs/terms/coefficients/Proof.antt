@@ -9,7 +9,7 @@ use Rattle.lanes.proofs.terms.coefficients.Statement.{statement}
 use Rattle.lanes.proofs.terms.coefficients.Tie as tie
 
 abbrev Inv-loop : tie.InvT-loop
-Inv-loop rows sizes mixed lanes chosen all₀ t₀ all t = Filled (coefficientAt (sizes .n) mixed (at lanes) (at chosen)) t all₀ all
+Inv-loop rows sizes mixed lanes chosen all₀ t₀ all t = Filled (coefficientAt (sizes .class) (sizes .n) (sizes .k) mixed (at lanes) (at chosen)) t all₀ all
 
 abbrev μ-loop : tie.MeasureT-loop
 μ-loop rows sizes mixed lanes chosen all₀ t₀ all t = 256 - t

@@ -12,7 +12,7 @@ allowed-requires c κs = search needs
 search-allowed-requires : tie.Need-search-allowed-requires
 search-allowed-requires c κs =
     let e = sym (c .before .allowed .ensures) ∙ c .if1 .taken in
-    (allowed-sizes _ _ _ _ e (c .before .before .before .args .family), allowed-table _ _ _ _ e)
+    (allowed-sizes _ _ _ _ _ e (c .before .before .before .args .family), allowed-table _ _ _ _ _ e)
 
 returns : tie.Need-returns
 unfolding searched

@@ -24,8 +24,8 @@ returns c = or-else-refused _ _ _ (c .before .judge-sizes .ensures) (c .if1 .tak
 abbrev start : tie.Else1 → tie.Start
 start c = c .before .before .before
 
-sized : (c : tie.Else1) → Sized (start c .args .n) (start c .args .m) (start c .args .k)
-sized c = sizes-none _ _ _ (sym (c .before .judge-sizes .ensures) ∙ c .if1 .left)
+sized : (c : tie.Else1) → Sized (start c .args .n) (start c .args .m) 3 (start c .args .k)
+sized c = sizes-none _ _ _ _ (sym (c .before .judge-sizes .ensures) ∙ c .if1 .left)
 
 shl-size : tie.Need-shl-size
 shl-size c = omega (arith, sized c .inputs .1)

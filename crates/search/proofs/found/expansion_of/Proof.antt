@@ -21,8 +21,8 @@ start c = c .before .before .before .before .before .before .before .before
 set : (c : tie.Start) → MixedSet (c .args .sizes) (c .args .leader .pair / 2 ^ c .args .sizes .n)
 set c =
     let l = c .pre .1 .0 in
-    let member = leader-member (c .args .sizes .family) _ _ _ (c .args .leader) (l .inputs) (l .within) (c .pre .1 .1 .1) in
-    record { mask = member .mask; size = member .size }
+    let member = leader-member (c .args .sizes .class) (c .args .sizes .family) _ _ _ (c .args .leader) (l .inputs) (l .within) (c .pre .1 .1 .1) in
+    record { mask = member .pair .mask; size = member .pair .size }
 
 abbrev lanes : tie.After-expand-blocks → List ℕ
 lanes c = c .expand-blocks .last .1 .1 .1 .0
@@ -67,13 +67,13 @@ array-share-prefix-lanes c =
     let e = c .before in
     room-fits-again 8 _ (omega arith) (start e .pre .1 .0) (lanes e) _ (long e)
 
-slice-aggregate-polarities : tie.Need-slice-aggregate-polarities
-slice-aggregate-polarities c =
+slice-aggregate-block-choices : tie.Need-slice-aggregate-block-choices
+slice-aggregate-block-choices c =
     let e = c .before .before in
     room-counted-again 8 _ (omega arith) (start e .pre .1 .0) (lanes e) _ (long e)
 
-polarities-requires : tie.Need-polarities-requires
-polarities-requires c κs =
+block-choices-requires : tie.Need-block-choices-requires
+block-choices-requires c κs =
     let e = c .before .before in
     let s = start e in
     (s .pre .0, (s .pre .1 .0, ap length (room-kept 8 _ (omega arith) (s .pre .1 .0) (lanes e) _ (long e)) ∙ long e))
@@ -94,7 +94,7 @@ coefficients-requires c κs =
     let s = start e in
     let p = s .pre .1 in
     let kept = room-kept 8 _ (omega arith) (p .0) (lanes e) _ (long e) in
-    let chosen = blocks-lt _ _ _ _ _ (p .0) (p .1 .0) (p .1 .1) (kept ∙ e .expand-blocks .ensures) (c .before .before .polarities .ensures) in
+    let chosen = blocks-lt _ _ _ _ _ (p .0) (p .1 .0) (p .1 .1) (kept ∙ e .expand-blocks .ensures) (c .before .before .block-choices .ensures) in
     (s .pre .0, (p .0, ((set s, ap length kept ∙ long e), chosen)))
 
 empty-requires : tie.Need-empty-requires
@@ -116,8 +116,8 @@ returns c =
     let s = start e in
     let p = s .pre .1 in
     let kept = room-kept 8 _ (omega arith) (p .0) (lanes e) _ (long e) in
-    let polarities = d .before .before .before .polarities .ensures in
-    record-answer _ _ _ _ _ (p .0) (p .1 .0) (p .1 .1) (kept ∙ e .expand-blocks .ensures) polarities _ (d .coefficients .ensures) _ _ (c .before .counts-in .ensures)
+    let choices = d .before .before .before .block-choices .ensures in
+    record-answer _ _ _ _ _ (p .0) (p .1 .0) (p .1 .1) (kept ∙ e .expand-blocks .ensures) choices _ (d .coefficients .ensures) _ _ (c .before .counts-in .ensures)
 
 pub expansion-of-spec : {M : Type 1} → statement M
 expansion-of-spec =
@@ -132,8 +132,8 @@ expansion-of-spec =
     slice-aggregate-expand-blocks
     expand-blocks-requires
     array-share-prefix-lanes
-    slice-aggregate-polarities
-    polarities-requires
+    slice-aggregate-block-choices
+    block-choices-requires
     array-share-prefix-lanes-2
     slice-aggregate-coefficients
     coefficients-requires

@@ -14,7 +14,7 @@ use Rattle.search.proofs.pairs.first_least.Tie as tie
 
 abbrev Inv-loop : tie.InvT-loop
 Inv-loop rows sizes table all led₀ mixed₀ led mixed =
-    (all ≡ 2 ^ sizes .n) × (mixed ≤ 2 ^ sizes .n) × Leads (sizes .family) (sizes .n) (sizes .k) (at table) (mixed * 2 ^ sizes .n) led
+    (all ≡ 2 ^ sizes .n) × (mixed ≤ 2 ^ sizes .n) × Leads (sizes .class) (sizes .family) (sizes .n) (sizes .k) (at table) (mixed * 2 ^ sizes .n) led
 
 abbrev μ-loop : tie.MeasureT-loop
 μ-loop rows sizes table all led₀ mixed₀ led mixed = all - mixed
@@ -25,7 +25,7 @@ shl-all c = search needs
 loop-holds : tie.Need-loop-holds Inv-loop μ-loop
 loop-holds c =
     let s = c .before .before in
-    (one-shifted _ (omega (arith, s .pre .1 .0 .inputs)), omega arith, rw (zero-mul (2 ^ s .args .sizes .n)) (leads-none (s .args .sizes .family) _ _ _))
+    (one-shifted _ (omega (arith, s .pre .1 .0 .inputs)), omega arith, rw (zero-mul (2 ^ s .args .sizes .n)) (leads-none (s .args .sizes .class) (s .args .sizes .family) _ _ _))
 
 try-mixed-requires : tie.Need-try-mixed-requires Inv-loop μ-loop
 try-mixed-requires c κs =

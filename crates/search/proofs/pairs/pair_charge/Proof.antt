@@ -1,81 +1,82 @@
--- The loop adds up what the blocks below j cost, each under its first least polarity.
+-- `pair_charge` meets its contract: block 0 costs what it costs under its first least choice, and the other blocks add 256 times their charges.
 use borrow.Author.Needs.{needs}
-use Prim.Native.Nat.{_-_}
+use mathlib.Core.Path.{_≡_, sym, ap, _∙_}
+use Prim.Native.Nat.{ℕ, _+_, _*_, _-_}
 use native.Mathlib.Omega.{arith}
 use lib.Pow.{pow-pos}
 use Rattle.numbers.specs.Bytes.{at}
-use Rattle.search.proofs.pairs.Charging.{BlocksSummed, blocks-first, blocks-few, blocks-lt, blocks-more, blocks-all, whole-lt}
+use Rattle.search.specs.inner.Search.{pairFrom}
+use Rattle.search.proofs.pairs.Charging.{pairFrom-lt}
 use Rattle.search.proofs.pairs.pair_charge.Statement.{statement}
 use Rattle.search.proofs.pairs.pair_charge.Tie as tie
 
-abbrev Inv-loop : tie.InvT-loop
-Inv-loop rows sizes lanes count first others₀ j₀ others j = BlocksSummed sizes (at lanes) count (first .charge) others j
-
-abbrev μ-loop : tie.MeasureT-loop
-μ-loop rows sizes lanes count first others₀ j₀ others j = count - j
-
-sub-count : tie.Need-sub-count Inv-loop μ-loop
-sub-count c = c .before .before .pre .1 .0 .within
-
-shl-count : tie.Need-shl-count Inv-loop μ-loop
-shl-count c = omega (arith, c .before .before .pre .1 .0 .inputs)
-
-cheapest-first-requires : tie.Need-cheapest-first-requires Inv-loop μ-loop
+cheapest-first-requires : tie.Need-cheapest-first-requires
 cheapest-first-requires c κs =
-    let s = c .before .before in
-    let p = s .pre in
-    ((p .0, omega (arith, p .1 .1, pow-pos (s .args .sizes .n - s .args .sizes .k))), p .1 .0)
+    let s = c .before in
+    ((s .pre .0, omega (arith, s .pre .1 .1, pow-pos (s .args .sizes .n - s .args .sizes .k))), s .pre .1 .0)
 
-loop-holds : tie.Need-loop-holds Inv-loop μ-loop
-loop-holds c = let s = c .before .before .before in blocks-first _ (at (s .args .lanes .now)) _ (s .pre .1 .0) (c .cheapest-first .ensures)
+apart-requires : tie.Need-apart-requires
+apart-requires c κs = search needs
 
-cheapest-other-requires : tie.Need-cheapest-other-requires Inv-loop μ-loop
-cheapest-other-requires c κs =
-    let p = c .before .before .before .before .before .pre in
-    let l = c .before .loop in
-    let few = blocks-few _ _ _ _ _ _ (c .loop-test .taken) (l .inv) in
-    ((p .0, few, omega (arith, p .1 .1, l .inv .all)), p .1 .0)
+others-charge-requires : tie.Need-others-charge-requires
+others-charge-requires c κs =
+    let p = c .before .before .before .before .pre in
+    (p .0, ((p .1 .0, sym (c .if1 .taken) ∙ c .before .apart .ensures), p .1 .1))
 
-add-others : tie.Need-add-others Inv-loop μ-loop
-add-others c =
-    let l = c .before .before .before .loop in
-    omega (arith, blocks-lt _ _ _ _ _ _ (c .before .before .loop-test .taken) (l .inv) _ (c .before .cheapest-other .ensures))
+-- the sum, where the terms of a block choose apart
+sum : (c : tie.After-others-charge) → let a = c .before .before .before .before .before .args in
+    c .before .before .before .cheapest-first .result .charge + c .others-charge .result * 256 ≡ pairFrom (a .sizes) (at (a .lanes .now))
+sum c =
+    ap (λ (x : ℕ). x + c .others-charge .result * 256) (c .before .before .before .cheapest-first .ensures .charge) ∙ c .others-charge .ensures
 
-add-j : tie.Need-add-j Inv-loop μ-loop
-add-j c = search needs
+mul-result : tie.Need-mul-result
+mul-result c =
+    let s = c .before .before .before .before .before in
+    omega (arith, sum c, pairFrom-lt (s .args .sizes) (at (s .args .lanes .now)) (s .pre .1 .0))
 
-loop-less : tie.Need-loop-less Inv-loop μ-loop
-loop-less c = search needs
+add-result : tie.Need-add-result
+add-result c =
+    let s = c .before .before .before .before .before .before in
+    omega (arith, sum (c .before), pairFrom-lt (s .args .sizes) (at (s .args .lanes .now)) (s .pre .1 .0))
 
-loop-again : tie.Need-loop-again Inv-loop μ-loop
-loop-again c =
-    let l = c .before .before .before .loop in
-    blocks-more _ _ _ _ _ _ (c .before .before .loop-test .taken) (l .inv) _ (c .before .cheapest-other .ensures)
+returns : tie.Need-returns
+returns c = sum (c .before)
 
-mul-result : tie.Need-mul-result Inv-loop μ-loop
-mul-result c = omega (arith, whole-lt _ _ _ _ _ _ (c .loop-test .left) (c .before .loop .inv))
+others-charge-requires-2 : tie.Need-others-charge-requires-2
+others-charge-requires-2 c κs =
+    let p = c .before .before .before .before .pre in
+    (p .0, ((p .1 .0, sym (c .if1 .left) ∙ c .before .apart .ensures), p .1 .1))
 
-add-result : tie.Need-add-result Inv-loop μ-loop
-add-result c = omega (arith, whole-lt _ _ _ _ _ _ (c .before .loop-test .left) (c .before .before .loop .inv))
+-- and where they do not
+sum-2 : (c : tie.After-others-charge2) → let a = c .before .before .before .before .before .args in
+    c .before .before .before .cheapest-first .result .charge + c .others-charge2 .result * 256 ≡ pairFrom (a .sizes) (at (a .lanes .now))
+sum-2 c =
+    ap (λ (x : ℕ). x + c .others-charge2 .result * 256) (c .before .before .before .cheapest-first .ensures .charge) ∙ c .others-charge2 .ensures
 
-returns : tie.Need-returns Inv-loop μ-loop
-returns c = blocks-all _ _ _ _ _ _ (c .before .loop-test .left) (c .before .before .loop .inv)
+mul-result-2 : tie.Need-mul-result-2
+mul-result-2 c =
+    let s = c .before .before .before .before .before in
+    omega (arith, sum-2 c, pairFrom-lt (s .args .sizes) (at (s .args .lanes .now)) (s .pre .1 .0))
+
+add-result-2 : tie.Need-add-result-2
+add-result-2 c =
+    let s = c .before .before .before .before .before .before in
+    omega (arith, sum-2 (c .before), pairFrom-lt (s .args .sizes) (at (s .args .lanes .now)) (s .pre .1 .0))
+
+returns-2 : tie.Need-returns-2
+returns-2 c = sum-2 (c .before)
 
 pub pair-charge-spec : {M : Type 1} → statement M
 pair-charge-spec =
     tie.close
     (tie.spec
-    Inv-loop
-    μ-loop
-    sub-count
-    shl-count
     cheapest-first-requires
-    loop-holds
-    cheapest-other-requires
-    add-others
-    add-j
-    loop-less
-    loop-again
+    apart-requires
+    others-charge-requires
     mul-result
     add-result
-    returns)
+    returns
+    others-charge-requires-2
+    mul-result-2
+    add-result-2
+    returns-2)

@@ -11,7 +11,9 @@ ones-in-requires : tie.Need-ones-in-requires
 ones-in-requires c κs = search needs
 
 returns : tie.Need-returns
-returns c = let s = c .before .before .before .before in leads-other (s .args .sizes .family) _ _ _ _ _ (λ e. c .if1 .taken (c .before .before .ones-in .ensures ∙ e)) (s .pre .1 .1 .1 .1)
+returns c =
+    let s = c .before .before .before .before in
+    leads-other (s .args .sizes .class) (s .args .sizes .family) _ _ _ _ _ (λ e. c .if1 .taken (c .before .before .ones-in .ensures ∙ e)) (s .pre .1 .1 .1 .1)
 
 sub-all : tie.Need-sub-all
 sub-all c = search needs

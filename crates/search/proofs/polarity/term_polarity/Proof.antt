@@ -1,11 +1,12 @@
 -- `term_polarity` meets its contract: each early return is one test of `termPolarity`.
 use borrow.Author.Needs.{needs}
-use mathlib.Core.Path.{_≡_, ap, _∙_}
+use mathlib.Core.Path.{_≡_, ap, ap₂, _∙_}
 use Prim.Native.Nat.{ℕ, _+_, _*_, _^_, _%_, _≤_, _<_}
 use borrow.Author.Tests.{le-leb, lt-leb, lt-ltb, le-ltb}
 use Rattle.numbers.specs.Bytes.{at}
 use Rattle.numbers.proofs.Shifts.{one-shifted}
-use Rattle.expansions.specs.Split.{gather, spread, outside}
+use Rattle.expansions.specs.Split.{spread, outside}
+use Rattle.expansions.specs.Classes.{placePolarity}
 use Rattle.expansions.specs.Members.{polarity}
 use Rattle.points.proofs.Bounds.{gather-small, spread-small}
 use Rattle.search.specs.Expansion.{termPolarity}
@@ -44,19 +45,19 @@ returns-3 c =
     let h : 2 ^ a .n ≤ a .fixed = omega (arith, c .if3 .taken, size (c .before .before)) in
     rw (le-leb _ 8 (c .before .before .if1 .left), lt-ltb _ _ (mixed-lt (c .before)), le-ltb _ _ h)
 
-outside-requires : tie.Need-outside-requires
-outside-requires c κs = (c .before .before .if1 .left, mixed-lt (c .before))
-
-gather-requires : tie.Need-gather-requires
-gather-requires c κs = c .before .before .before .if1 .left
+split-requires : tie.Need-split-requires
+split-requires c κs = c .before .before .if1 .left
 
 element-copy-out-wide : tie.Need-element-copy-out-wide
 element-copy-out-wide c =
-    let a = c .before .before .before .before .before .args in
-    omega (arith, c .gather .ensures, gather-small (a .n) (c .before .outside .result) (a .t) (c .before .before .before .before .if1 .left))
+    let a = c .before .before .before .before .args in
+    omega (arith, c .split .ensures .0, gather-small (a .n) (outside (a .n) (a .mixed)) (a .t) (c .before .before .before .if1 .left))
 
 wide-requires : tie.Need-wide-requires
 wide-requires c κs = search needs
+
+place-polarity-requires : tie.Need-place-polarity-requires
+place-polarity-requires c κs = search needs
 
 spread-requires : tie.Need-spread-requires
 spread-requires c κs = search needs
@@ -66,18 +67,20 @@ add-result c =
     let a = c .before .before .before .before .before .before .before .before .args in
     let few = c .before .before .before .before .before .before .before .if1 .left in
     let size-le : 2 ^ a .n ≤ 256 = pow-mono few in
-    omega (arith, fixed-lt (c .before .before .before .before .before), c .spread .ensures, spread-small (a .n) (a .mixed) (c .before .wide .result) few)
+    omega (arith, fixed-lt (c .before .before .before .before .before), c .spread .ensures, spread-small (a .n) (a .mixed) (c .before .place-polarity .result) few)
 
 returns-4 : tie.Need-returns-4
 unfolding termPolarity polarity
 returns-4 c =
     let a = c .before .before .before .before .before .before .before .before .args in
     let past = c .before .before .before .before .before in
-    let g = c .before .before .before in
-    let block : g .gather .result ≡ gather (a .n) (outside (a .n) (a .mixed)) (a .t) = g .gather .ensures ∙ ap (λ (x : ℕ). gather (a .n) x (a .t)) (g .before .outside .ensures) in
+    let split = c .before .before .before .before .split .ensures in
     rw (le-leb _ 8 (past .before .before .if1 .left), lt-ltb _ _ (mixed-lt (past .before)), lt-ltb _ _ (fixed-lt past))
     (ap (λ (x : ℕ). a .fixed + x)
-    (c .spread .ensures ∙ ap (spread (a .n) (a .mixed)) (c .before .wide .ensures .0 ∙ ap (at (a .blocks .now)) block)))
+    (c .spread .ensures
+    ∙ ap (spread (a .n) (a .mixed))
+    (c .before .place-polarity .ensures
+    ∙ ap₂ (placePolarity (a .class) (a .k)) (c .before .before .wide .ensures .0 ∙ ap (at (a .blocks .now)) (split .0)) (split .1))))
 
 pub term-polarity-spec : {M : Type 1} → statement M
 term-polarity-spec =
@@ -87,10 +90,10 @@ term-polarity-spec =
     shl-all
     returns-2
     returns-3
-    outside-requires
-    gather-requires
+    split-requires
     element-copy-out-wide
     wide-requires
+    place-polarity-requires
     spread-requires
     add-result
     returns-4)
