@@ -8,8 +8,10 @@ use Rattle.algebra.specs.declared.calls.Transformed.{Transformed}
 use Rattle.algebra.specs.declared.calls.Transformed.the-variants.{Done, Refused}
 use Rattle.expansions.specs.declared.families.Family.{Family}
 use Rattle.expansions.specs.declared.families.Family.the-variants.{One, Two}
+use Rattle.expansions.specs.declared.kinds.Class.{Class}
+use Rattle.expansions.specs.declared.kinds.Class.the-variants.{Block, Free}
 use Rattle.expansions.specs.declared.kinds.Kind.{Kind}
-use Rattle.expansions.specs.declared.kinds.Kind.the-variants.{Block, Kronecker}
+use Rattle.expansions.specs.declared.kinds.Kind.the-variants.{Mixed, Kronecker}
 use Rattle.search.specs.Calls as minimising
 use Rattle.search.specs.Expansion.{answerExpansion}
 use Rattle.search.specs.declared.calls.Minimised.{Minimised}
@@ -32,7 +34,7 @@ transformNumbers (Refused number line) = number ∷ line ∷ []
 
 -- the answer that is decided for n, m, k, the table and the lengths of the two buffers to fill
 abbrev pub decidedMinimum : ℕ → ℕ → ℕ → List ℕ → ℕ → ℕ → Minimised
-decidedMinimum n m k table coefficients blocks = minimising.minimised (minimising.minimiseRefusal n m k table coefficients blocks) (answerExpansion One n k (at table))
+decidedMinimum n m k table coefficients blocks = minimising.minimised (minimising.minimiseRefusal n m k table coefficients blocks) (answerExpansion Block One n k (at table))
 
 -- "returns M, i, products and literals", after the number and the line, and last the inversion mask, "which the binary call returns too"; all 0 under a
 -- refusal
@@ -40,9 +42,14 @@ unfoldable pub minimumNumbers : Minimised → List ℕ
 minimumNumbers (minimised.Found M i products literals inverted) = 0 ∷ 0 ∷ M ∷ i ∷ products ∷ literals ∷ inverted ∷ []
 minimumNumbers (minimised.Refused number line) = number ∷ line ∷ 0 ∷ 0 ∷ 0 ∷ 0 ∷ 0 ∷ []
 
--- k and "the kind of k": 1 where k is a number, and 2 with k = 0 for `K`
+-- the kind of k of a class: 1 for a digit or `-`, and 3 for an `f` field
+unfoldable pub classNumber : Class → ℕ
+classNumber Block = 1
+classNumber Free = 3
+
+-- k and "the kind of k": that of its class where k is a number, and 2 with k = 0 for `K`
 abbrev pub kindNumbers : Kind → List ℕ
-kindNumbers (Block k) = k ∷ 1 ∷ []
+kindNumbers (Mixed C k) = k ∷ classNumber C ∷ []
 kindNumbers Kronecker = 0 ∷ 2 ∷ []
 
 -- "the family too": 1 for `table`, and 2 for `table2`

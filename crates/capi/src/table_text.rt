@@ -1,6 +1,7 @@
 // The reading call and the text call. The reading call's answer is seven numbers: the refusal's number and its line, n, m, k, the kind of k and
 // the family. The text call's answer is three: the refusal's number and its line, and the listing's length.
 use expansions::families::Family;
+use expansions::kinds::Class;
 use expansions::kinds::Kind;
 use table_texts::read::ReadAnswer;
 use table_texts::sizes::Design;
@@ -11,7 +12,7 @@ ghost use Prim.Native.Nat.{ℕ};
 ghost use lib.ListN.{length};
 ghost use Rattle.table_texts.specs.Read.{reading, lent, standsFor, tableAfter};
 ghost use Rattle.text.specs.Compile.{compiled, Compile};
-ghost use Rattle.capi.specs.Answers.{familyNumber, designNumbers, readNumbers, listingNumbers};
+ghost use Rattle.capi.specs.Answers.{classNumber, familyNumber, designNumbers, readNumbers, listingNumbers};
 
 // The number that stands for a family: 1 for `table`, and 2 for `table2`.
 fn family_number(family: Family) -> u64
@@ -23,7 +24,17 @@ fn family_number(family: Family) -> u64
     }
 }
 
-// The numbers that stand for a design that was read. The kind is 1 where k is a number, and 2 with k = 0 for `K`.
+// The kind of k of a class: 1 for a digit or `-`, and 3 for an `f` field.
+fn class_number(class: Class) -> u64
+    ensures { λ r. ⌜ r ≡ classNumber class ⌝ }
+{
+    match class {
+        Class::Block => 1,
+        Class::Free => 3,
+    }
+}
+
+// The numbers that stand for a design that was read. The kind is that of the class where k is a number, and 2 with k = 0 for `K`.
 fn design_numbers(design: Design) -> [u64; 7]
     ensures { λ a. ⌜ a ≡ designNumbers design ⌝ }
 {
@@ -33,7 +44,7 @@ fn design_numbers(design: Design) -> [u64; 7]
     let m = design.m as u64;
     let family = family_number(part);
     match kind {
-        Kind::Block(k) => [0, 0, n, m, k as u64, 1, family],
+        Kind::Mixed(class, k) => [0, 0, n, m, k as u64, class_number(class), family],
         Kind::Kronecker => [0, 0, n, m, 0, 2, family],
     }
 }

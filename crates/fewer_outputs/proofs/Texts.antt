@@ -19,8 +19,9 @@ use Rattle.numbers.proofs.Pack.{onesIn-ones}
 use Rattle.numbers.proofs.Xor.{low-lt}
 use Rattle.expansions.specs.declared.families.Family.{Family}
 use Rattle.expansions.specs.declared.families.Family.the-variants.{One, Two}
+use Rattle.expansions.specs.declared.kinds.Class.the-variants.{Block}
 use Rattle.expansions.specs.declared.kinds.Kind.{Kind}
-use Rattle.expansions.specs.declared.kinds.Kind.the-variants.{Block}
+use Rattle.expansions.specs.declared.kinds.Kind.the-variants.{Mixed}
 use Rattle.expansions.specs.Split.{putDigit, gather}
 use Rattle.expansions.specs.Outputs.{IsChoice, chosenCount, chosenOutputs, chosenTable}
 use Rattle.expansions.proofs.Split.{gather-zero, gather-lt}
@@ -75,7 +76,7 @@ unfolding tableWord same bytes
 no-end One rest = refl
 no-end Two rest = refl
 
-plain-field : (k : List ℕ) (x : Kind) → (k ≡ kindField x) ⊎ ((x ≡ Block 1) × (k ≡ bytes "-")) → Plain k
+plain-field : (k : List ℕ) (x : Kind) → (k ≡ kindField x) ⊎ ((x ≡ Mixed Block 1) × (k ≡ bytes "-")) → Plain k
 plain-field k x (inl e) = rw e (plain-kind x)
 plain-field k x (inr e) = rw (e .1) plain-dash
 

@@ -1,7 +1,7 @@
--- A field that says a number, a mask or outputs is the field that is written for them: there is one way to write a digit (`oneDigit-read`), a number
--- (`number-read`), a mask (`mask-read`) and outputs (`outputs-read`).
-use mathlib.Core.Bool.{true, false, not, _&&_, _||_, false≢true}
-use mathlib.Core.List.{List, [], _∷_}
+-- A field that says a number, a class with its k, a mask or outputs is the field that is written for them: there is one way to write a digit
+-- (`oneDigit-read`), the field k (`mixed-read`), a number (`number-read`), a mask (`mask-read`) and outputs (`outputs-read`).
+use mathlib.Core.Bool.{Bool, true, false, cond, not, _&&_, _||_, false≢true}
+use mathlib.Core.List.{List, [], _∷_, _++_}
 use mathlib.Core.Path.{_≡_, refl, sym, ap, ap₂, _∙_}
 use Prim.Native.Nat.{ℕ, suc, _+_, _*_, _/_, _%_, _^_, _≤_, _<_}
 use native.Mathlib.Nat.{div-one, pow-le-pow-right, lt-of-lt-of-le}
@@ -10,11 +10,15 @@ use borrow.Author.Tests.{eqb-true, eqb-false, ne-eqb, not-true}
 use lib.Dec.{leb, eqb, lit<}
 use lib.ListN.{length, getD}
 use Rattle.numbers.proofs.Tests.{both-right}
-use Rattle.listings.specs.Listing.{descending, digitCount, decimal, outputBytes}
+use Rattle.expansions.specs.declared.kinds.Class.{Class}
+use Rattle.expansions.specs.declared.kinds.Class.the-variants.{Block, Free}
+use Rattle.listings.specs.Parts.{bytes}
+use Rattle.listings.specs.Listing.{descending, digitCount, decimal, outputBytes, mixedMark, mixedField}
 use Rattle.listings.proofs.Cubes.{outputs-none, outputs-cons, digits-next}
 use Rattle.fields.specs.declared.values.Number.the-variants.{Is, Wrong}
 use Rattle.fields.specs.declared.values.Number.{Number}
-use Rattle.fields.specs.Fields.{andThen, digit, oneDigit, digitsFrom, wellFormed, number, bits, mask, outputs}
+use Rattle.fields.specs.declared.values.MixedRead.the-variants as mixed
+use Rattle.fields.specs.Fields.{andThen, digit, oneDigit, withClass, mixedSaid, digitsFrom, wellFormed, number, bits, mask, outputs}
 use Rattle.fields.proofs.Numbers.{wrong-is, under-test, digit-lt, digit-byte, wellFormed-le, mask-is, outputs-is}
 use Rattle.fields.proofs.Digits.{ten-least, ten-below, digitCount-of}
 use Rattle.fields.proofs.Written.{decimal-one}
@@ -28,6 +32,36 @@ oneDigit-read (b ∷ []) v e = rw (digit-byte 10 b v e) (sym (decimal-one v (dig
 oneDigit-read (b ∷ b′ ∷ f) v e =
     let passes = under-test (eqb (suc (suc (length f))) 1) (digit 10 b) v e in
     absurd (omega (arith, eqb-true (suc (suc (length f))) 1 (passes .0)))
+
+oneDigit-lt : (f : List ℕ) (v : ℕ) → oneDigit f ≡ Is v → v < 10
+unfolding oneDigit
+oneDigit-lt f v e = digit-lt 10 (getD f 0 0) v (under-test (eqb (length f) 1) (digit 10 (getD f 0 0)) v e .1)
+
+-- ---- the field k
+
+wrong-mixed : {C : Class} {k : ℕ} → mixed.Wrong ≡ mixed.Is C k → ⊥
+wrong-mixed e = let z : _≡_ {A = ℕ} 0 1 = cc in omega arith
+
+-- the digit after the mark of the class D
+class-read : (D : Class) (f : List ℕ) (C : Class) (k : ℕ) → withClass D (oneDigit f) ≡ mixed.Is C k → (mixedMark D ++ f ≡ mixedField C k) × (k < 10)
+unfolding mixedField
+class-read D f C k e = go (oneDigit f) refl e where
+  go : (x : Number) → oneDigit f ≡ x → withClass D x ≡ mixed.Is C k → (mixedMark D ++ f ≡ mixedMark C ++ decimal k) × (k < 10)
+  go (Is v) h g =
+      let class : D ≡ C = cc in
+      let value : v ≡ k = cc in
+      let said : oneDigit f ≡ Is k = h ∙ ap Is value in
+      (ap₂ (λ (B : Class) (l : List ℕ). mixedMark B ++ l) class (oneDigit-read f k said), oneDigit-lt f k said)
+  go Wrong h g = absurd (wrong-mixed g)
+
+pub mixed-read : (f : List ℕ) (C : Class) (k : ℕ) → mixedSaid f ≡ mixed.Is C k → (f ≡ mixedField C k) × (k < 10)
+unfolding mixedSaid mixedMark bytes
+mixed-read [] C k e = class-read Block [] C k e
+mixed-read (b ∷ f) C k e = go (eqb b 102) refl e where
+  go : (t : Bool) → eqb b 102 ≡ t → cond t (withClass Free (oneDigit f)) (withClass Block (oneDigit (b ∷ f))) ≡ mixed.Is C k
+      → (b ∷ f ≡ mixedField C k) × (k < 10)
+  go true h g = let said = class-read Free f C k g in (ap (λ (x : ℕ). x ∷ f) (eqb-true b 102 h) ∙ said .0, said .1)
+  go false h g = class-read Block (b ∷ f) C k g
 
 -- ---- numbers
 

@@ -1,5 +1,5 @@
--- A field as it is written is read back: digits say their number (`oneDigit-decimal`, `number-decimal`), and characters their mask or outputs
--- (`mask-written`, `outputs-written`).
+-- A field as it is written is read back: digits say their number (`oneDigit-decimal`, `number-decimal`), the field k its class and its number
+-- (`mixed-said`), and characters their mask or outputs (`mask-written`, `outputs-written`).
 use mathlib.Core.Bool.{Bool, true, false, not, _||_}
 use mathlib.Core.List.{[], _∷_}
 use mathlib.Core.Path.{_≡_, refl, ap, _∙_}
@@ -9,12 +9,16 @@ use native.Mathlib.Omega.{arith}
 use borrow.Author.Tests.{lt-ltb, le-leb, eq-eqb, ne-eqb, eqb-false}
 use lib.Dec.{eqb}
 use Rattle.numbers.specs.Bytes.{at, tabulate}
-use Rattle.listings.specs.Listing.{descending, digitCount, decimal, outputBytes}
+use Rattle.expansions.specs.declared.kinds.Class.{Class}
+use Rattle.expansions.specs.declared.kinds.Class.the-variants.{Block, Free}
+use Rattle.listings.specs.Parts.{bytes}
+use Rattle.listings.specs.Listing.{descending, digitCount, decimal, outputBytes, mixedMark, mixedField}
 use Rattle.listings.proofs.Characters.{length-outputs, length-decimal, at-decimal, digitCount-in}
 use Rattle.listings.proofs.Cubes.{outputs-cons, digits-next, digitCount-bound}
 use Rattle.listings.proofs.Longest.{digitCount-one}
 use Rattle.fields.specs.declared.values.Number.the-variants.{Is}
-use Rattle.fields.specs.Fields.{digit, oneDigit, digitsFrom, wellFormed, number, bits, mask, outputs}
+use Rattle.fields.specs.declared.values.MixedRead.the-variants as mixed
+use Rattle.fields.specs.Fields.{digit, oneDigit, withClass, mixedSaid, digitsFrom, wellFormed, number, bits, mask, outputs}
 use Rattle.fields.proofs.Numbers.{ten-le}
 use Rattle.fields.proofs.Digits.{ten-some, digitCount-least, digitCount-le}
 
@@ -37,6 +41,15 @@ decimal-one x h =
 pub oneDigit-decimal : (x : ℕ) → x < 10 → oneDigit (decimal x) ≡ Is x
 unfolding oneDigit
 oneDigit-decimal x h = rw (decimal-one x h) (digit-written 10 x h)
+
+-- ---- the field k
+
+pub mixed-said : (C : Class) (k : ℕ) → k < 10 → mixedSaid (mixedField C k) ≡ mixed.Is C k
+unfolding mixedSaid mixedField mixedMark bytes
+mixed-said Block k h =
+    let other : eqb (48 + k) 102 ≡ false = ne-eqb (48 + k) 102 (λ e. omega arith) in
+    ap mixedSaid (decimal-one k h) ∙ rw other (ap (withClass Block) (rw (decimal-one k h) at (oneDigit-decimal k h)))
+mixed-said Free k h = ap (withClass Free) (oneDigit-decimal k h)
 
 -- ---- numbers
 

@@ -1,15 +1,20 @@
--- What the fields of a line say: words, digits, numbers, outputs and masks. Document 01, "Text in, listing out", and document 02, W-203 and W-205.
+-- What the fields of a line say: words, digits, the field k, numbers, outputs and masks. Document 01, "Text in, listing out", and document 02, W-203,
+-- W-205 and W-207.
 use mathlib.Core.Bool.{Bool, cond, _&&_, _||_, not}
 use mathlib.Core.List.{List, [], _∷_}
 use Prim.Native.Nat.{ℕ, _+_, _-_, _*_}
 use lib.Dec.{leb, ltb, eqb}
-use lib.ListN.{length, getD}
+use lib.ListN.{length, getD, drop}
+use Rattle.expansions.specs.declared.kinds.Class.{Class}
+use Rattle.expansions.specs.declared.kinds.Class.the-variants.{Block, Free}
 use Rattle.expansions.specs.declared.families.Family.{Family}
 use Rattle.expansions.specs.declared.families.Family.the-variants.{One, Two}
 use Rattle.fields.specs.declared.words.FamilyRead.{FamilyRead}
 use Rattle.fields.specs.declared.words.FamilyRead.the-variants as family
 use Rattle.fields.specs.declared.values.Number.{Number}
 use Rattle.fields.specs.declared.values.Number.the-variants.{Is, Wrong}
+use Rattle.fields.specs.declared.values.MixedRead.{MixedRead}
+use Rattle.fields.specs.declared.values.MixedRead.the-variants as mixed
 use Rattle.listings.specs.Parts.{same, field, fields}
 
 -- what follows a number that is read, and what else is said where none is
@@ -38,6 +43,20 @@ digit base b = cond (leb 48 b && ltb (b - 48) base) (Is (b - 48)) Wrong
 -- "Each is one digit"
 unfoldable pub oneDigit : List ℕ → Number
 oneDigit f = cond (eqb (length f) 1) (digit 10 (getD f 0 0)) Wrong
+
+-- a digit k with the class that is read for it
+abbrev pub withClass : Class → Number → MixedRead
+withClass C x = andThen x mixed.Wrong (λ k. mixed.Is C k)
+
+-- document 02, W-207: "A k field of `f0`, `f1` or `f2` selects the free class", "Digits keep the block class." The byte of `f` is 102, and whether the
+-- digit is above 2 is judged later
+unfoldable pub mixedSaid : List ℕ → MixedRead
+mixedSaid f = cond (eqb (getD f 0 0) 102) (withClass Free (oneDigit (drop 1 f))) (withClass Block (oneDigit f))
+
+-- what follows a class and a k that are read, and what else is said where none are
+abbrev pub mixedThen : {A : Type 0} → MixedRead → A → (Class → ℕ → A) → A
+mixedThen (mixed.Is C k) other f = f C k
+mixedThen mixed.Wrong other f = other
 
 -- the number that digits say in base ten, after digits that say v
 unfoldable pub digitsFrom : ℕ → List ℕ → Number

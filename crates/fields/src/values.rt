@@ -1,13 +1,20 @@
-// What the fields of a line say: digits, numbers, masks, outputs and cubes. A function here gives what the whole field says, or `Wrong` where it breaks
-// the grammar.
+// What the fields of a line say: digits, the field k, numbers, masks, outputs and cubes. A function here gives what the whole field says, or `Wrong`
+// where it breaks the grammar.
+use expansions::kinds::Class;
 ghost use mathlib.Core.Path.{_≡_};
 ghost use Prim.Native.Nat.{_≤_, _<_};
-ghost use Rattle.fields.specs.Fields.{digit, oneDigit, wellFormed, number, mask, outputs};
+ghost use Rattle.fields.specs.Fields.{digit, oneDigit, withClass, mixedSaid, wellFormed, number, mask, outputs};
 ghost use Rattle.fields.specs.Cubes.{characterSaid, cubeSaid};
 
 // What a field says that is to be a number.
 pub enum Number {
     Is(usize),
+    Wrong,
+}
+
+// What a field k says: a class and how many inputs are mixed.
+pub enum MixedRead {
+    Is { class: Class, k: usize },
     Wrong,
 }
 
@@ -40,6 +47,29 @@ pub fn one_digit(field: &[u8]) -> Number
         return Number::Wrong;
     }
     digit(10, field[0])
+}
+
+// A digit k with the class that is read for it.
+fn with_class(class: Class, digit: Number) -> MixedRead
+    ensures { λ r. ⌜ r ≡ withClass class digit ⌝ }
+{
+    match digit {
+        Number::Is(k) => MixedRead::Is { class, k },
+        Number::Wrong => MixedRead::Wrong,
+    }
+}
+
+// The field k of a class: a digit for document 01's class, and `f` and a digit for the free class.
+pub fn mixed_of(field: &[u8]) -> MixedRead
+    ensures { λ r. ⌜ r ≡ mixedSaid (now (field .entry)) ⌝ }
+{
+    if field.len() < 1 {
+        return MixedRead::Wrong;
+    }
+    if field[0] == b'f' {
+        return with_class(Class::Free, one_digit(&field[1..]));
+    }
+    with_class(Class::Block, one_digit(field))
 }
 
 // Whether a field has one byte to `most` bytes, and no leading zero but `0`.

@@ -10,15 +10,15 @@ use Rattle.numbers.specs.Bytes.{at}
 use Rattle.numbers.specs.Refusals.{Sized}
 use Rattle.numbers.proofs.Shifts.{points-le}
 use Rattle.expansions.specs.declared.kinds.Kind.{Kind}
-use Rattle.expansions.specs.declared.kinds.Kind.the-variants.{Block, Kronecker}
+use Rattle.expansions.specs.declared.kinds.Kind.the-variants.{Mixed, Kronecker}
+use Rattle.expansions.specs.Classes.{mostMixed}
 use Rattle.expansions.specs.Least.{Best, nothing, best}
-use Rattle.expansions.specs.Members.{polarity}
 use Rattle.listings.specs.Meaning.{statedMixed, statedFixed}
 use Rattle.membership.specs.Class.{ofClass}
 use Rattle.table_texts.specs.declared.sizes.Sizes.{Sizes}
 use Rattle.table_texts.specs.declared.sizes.Design.{Design}
-use Rattle.table_texts.specs.Design.{blockDesign}
-use Rattle.table_texts.proofs.Design.{block-sized}
+use Rattle.table_texts.specs.Design.{mixedDesign}
+use Rattle.table_texts.proofs.Design.{mixed-sized}
 use Rattle.table_texts.specs.Read as tables
 use Rattle.table_texts.proofs.read.Accepted.{reading-accepted}
 use Rattle.listing_texts.specs.declared.form.Form.{Form}
@@ -52,24 +52,24 @@ refused-differs e = let z : _≡_ {A = ℕ} 0 1 = cc in omega arith
 abbrev Read : Sizes → List ℕ → Type 0
 Read z s = (f : Form) × (v : ℕ) × (t : List ℕ) × (listingReading z s ≡ shown f v t)
 
-module _ (z : Sizes) (table s : List ℕ) (sized : Sized (z .n) (z .m) (z .k)) where
+module _ (z : Sizes) (table s : List ℕ) (sized : Sized (z .n) (z .m) (mostMixed (z .class)) (z .k)) where
   -- a listing that passes was read
   passed : Passes z s → Read z s
   passed = passes-exactly z s sized .0
 
-  -- a member's listing passes
-  printed-passes : (v : ℕ) (φ c : ℕ → ℕ) → PrintsTable z table s v φ c → Passes z s
-  printed-passes v φ c p =
+  -- the listing of an expansion of the class passes
+  printed-passes : (v : ℕ) (w c : ℕ → ℕ) → PrintsTable z table s v w c → Passes z s
+  printed-passes v w c p =
       let size : 2 ^ z .n ≤ 256 = points-le (z .n) (sized .inputs .1) in
       record {
         inverted = v;
         mixed = statedMixed s;
         fixed = statedFixed s;
-        polarity = polarity (z .n) (statedMixed s) (statedFixed s) φ;
+        polarity = w;
         coefficient = c;
         mask = p .mask;
-        mixed-digits = omega (arith, p .member .mask);
-        fixed-digits = omega (arith, p .member .fixed);
+        mixed-digits = omega (arith, p .in-class .pair .mask);
+        fixed-digits = omega (arith, p .in-class .pair .fixed);
         outputs = p .outputs;
         characters = p .lines;
       }
@@ -85,7 +85,7 @@ module _ (z : Sizes) (table s : List ℕ) (sized : Sized (z .n) (z .m) (z .k)) w
 
   not-refused : (f : Form) (v : ℕ) (t : List ℕ) (number l : ℕ) → judged z table (shown f v t) ≡ Refused number l → ⊥
   unfolding judged
-  not-refused f v t number l e = go (ofClass (z .n) (z .k) (f .mixed) (f .fixed) (complementedIn t) (coefficientIn t))
+  not-refused f v t number l e = go (ofClass (z .class) (z .n) (z .k) (f .mixed) (f .fixed) (complementedIn t) (coefficientIn t))
       (firstDifference (z .n) (invertedValue (z .n) (complementedIn t) (coefficientIn t) v) (at table)) e
     where
       go : (b : Bool) (x : Best) → cond b (compared x) NotOfClass ≡ Refused number l → ⊥
@@ -155,7 +155,7 @@ check-words text s r e =
     record {
       answer = e;
       words = λ z table g.
-          let sized = block-sized (blockDesign z) (z .k) refl (reading-accepted text (blockDesign z) table g .sized) in
+          let sized = mixed-sized (mixedDesign z) (z .class) (z .k) refl (reading-accepted text (mixedDesign z) table g .sized) in
           answers-words z table s sized r (e ∙ ap (λ (x : tables.Reading). checked x s) g);
       unlike = λ z table g l none. e ∙ unlike-refused text s z table g l none;
       second = λ z table g l same none. e ∙ second-line-refused text s z table g l same none;
@@ -169,5 +169,5 @@ pub kron-listing-refused : (text s : List ℕ) (d : Design) (table : List ℕ) �
 unfolding checked judgedDesign judged
 kron-listing-refused text s d table e k = ap (λ (x : tables.Reading). checked x s) e ∙ go (d .kind) where
   go : (x : Kind) → judgedKind (d .family) (d .n) (d .m) x table s ≡ Refused 11 1
-  go (Block j) = let z : Sizes = record { n = d .n; m = d .m; k = j; family = d .family } in ap (judged z table) (kron-read z s k)
+  go (Mixed C j) = let z : Sizes = record { n = d .n; m = d .m; class = C; k = j; family = d .family } in ap (judged z table) (kron-read z s k)
   go Kronecker = ap (λ (x : ℕ). Refused x 1) (kron-beside s k)

@@ -2,20 +2,18 @@
 use mathlib.Core.Bool.{Bool, true, false, cond, _&&_}
 use mathlib.Core.List.{List}
 use mathlib.Core.Path.{_≡_, refl, ap}
-use Prim.Native.Nat.{ℕ, _-_, _/_, _%_, _^_, _≤_, _<_}
+use Prim.Native.Nat.{ℕ, _-_, _/_, _%_, _^_, _≤_}
 use native.Mathlib.Omega.{arith}
-use borrow.Author.Tests.{ltb-true, lt-ltb}
-use lib.Count.{onesIn}
-use lib.Dec.{ltb}
+use borrow.Author.Tests.{lt-ltb, eq-eqb}
 use lib.Pow.{pow-mono}
 use Rattle.numbers.specs.Bytes.{at, tabulate}
 use Rattle.numbers.specs.Tests.{every}
 use Rattle.numbers.proofs.Shifts.{points-le}
 use Rattle.numbers.proofs.Tables.{at-whole}
-use Rattle.numbers.proofs.Tests.{both-left, both-right}
-use Rattle.expansions.specs.Answers.{validPair}
 use Rattle.expansions.specs.Least.{Best, nothing, best}
-use Rattle.membership.specs.Class.{legalPair, showsBack, shownPolarity, ofClass}
+use Rattle.expansions.specs.Members.{IsPair, shownChoice}
+use Rattle.membership.specs.Class.{legalPair, showsBack, ofClass}
+use Rattle.membership.proofs.Class.{legal-pair}
 use Rattle.membership.proofs.Shown.{shown-past}
 use Rattle.table_texts.specs.declared.sizes.Sizes.{Sizes}
 use Rattle.listing_texts.specs.declared.form.Form.{Form}
@@ -30,16 +28,6 @@ use Rattle.fitter.specs.Differences.{invertedValue, firstDifference}
 use Rattle.fitter.specs.Check.{compared, judged}
 use Rattle.fitter.specs.inner.Differences.{differenceOf}
 use Rattle.fitter.specs.inner.Judging.{judgedRecord}
-
--- ---- a pair that passes is of n inputs
-
-pub legal-mixed : (n k M i : ℕ) → legalPair n k M i ≡ true → M < 2 ^ n
-unfolding legalPair
-legal-mixed n k M i h = ltb-true M (2 ^ n) (both-left (ltb M (2 ^ n)) _ h)
-
-pub legal-fixed : (n k M i : ℕ) → legalPair n k M i ≡ true → i < 2 ^ n
-unfolding legalPair
-legal-fixed n k M i h = ltb-true i (2 ^ n) (both-left (ltb i (2 ^ n)) (validPair n k M i) (both-right (ltb M (2 ^ n)) _ h))
 
 -- ---- a search for a difference
 
@@ -68,30 +56,33 @@ module _ (z : Sizes) (table s : List ℕ) (f : Form) (v : ℕ) (t : List ℕ) (r
   coefficients-whole : at (tabulate 256 (coefficientIn t)) ≡ coefficientIn t
   coefficients-whole = at-whole 256 (coefficientIn t) (λ u h. ap (λ (x : ℕ). x % 256) (none-past u h))
 
-  blocks-whole : f .mixed < 2 ^ z .n → at (shownBlocks (z .n) (f .mixed) (complementedIn t)) ≡ shownPolarity (z .n) (f .mixed) (complementedIn t)
-  unfolding shownBlocks
-  blocks-whole h =
-      let inputs = listing-read z s f v t read .sized .inputs .1 in
-      let size : 2 ^ (z .n - onesIn (z .n) (f .mixed)) ≤ 256 = pow-mono {j = 8} (omega arith) in
-      rw (lt-ltb (f .mixed) (2 ^ z .n) h)
-      (at-whole 256 (shownPolarity (z .n) (f .mixed) (complementedIn t))
-      (λ j l. shown-past (z .n) (onesIn (z .n) (f .mixed)) (f .mixed) (complementedIn t) j refl (omega arith)))
+  -- the choice of each block that the cubes show
+  abbrev choice : ℕ → ℕ
+  choice = shownChoice (z .class) (z .n) (z .k) (f .mixed) (complementedIn t)
 
-  pub record-shown : judgedRecord z table (shownRead (z .n) f v t) ≡ judged z table (shown f v t)
+  blocks-whole : IsPair (z .n) (z .k) (f .mixed) (f .fixed) → at (shownBlocks (z .class) (z .n) (z .k) (f .mixed) (complementedIn t)) ≡ choice
+  unfolding shownBlocks
+  blocks-whole pair =
+      let inputs = listing-read z s f v t read .sized .inputs .1 in
+      let size : 2 ^ (z .n - z .k) ≤ 256 = pow-mono {j = 8} (omega arith) in
+      rw (lt-ltb (f .mixed) (2 ^ z .n) (pair .mask), eq-eqb _ _ (pair .size))
+      (at-whole 256 choice (λ j l. shown-past (z .class) (z .n) (z .k) (f .mixed) (complementedIn t) j (pair .size) (omega arith)))
+
+  pub record-shown : judgedRecord z table (shownRead z f v t) ≡ judged z table (shown f v t)
   unfolding judgedRecord judged shownRead shownExpansion ofClass
   record-shown = go (legalPair (z .n) (z .k) (f .mixed) (f .fixed)) refl where
     go : (b : Bool) → legalPair (z .n) (z .k) (f .mixed) (f .fixed) ≡ b
         → cond
         (b
         && every (2 ^ z .n)
-        (showsBack (z .n) (f .mixed) (f .fixed) (at (shownBlocks (z .n) (f .mixed) (complementedIn t))) (at (tabulate 256 (complementedIn t)))
-        (at (tabulate 256 (coefficientIn t)))))
+        (showsBack (z .class) (z .n) (z .k) (f .mixed) (f .fixed) (at (shownBlocks (z .class) (z .n) (z .k) (f .mixed) (complementedIn t)))
+        (at (tabulate 256 (complementedIn t))) (at (tabulate 256 (coefficientIn t)))))
         (compared (firstDifference (z .n) (invertedValue (z .n) (at (tabulate 256 (complementedIn t))) (at (tabulate 256 (coefficientIn t))) v) (at table)))
         NotOfClass
-        ≡ cond (b && every (2 ^ z .n) (showsBack (z .n) (f .mixed) (f .fixed) (shownPolarity (z .n) (f .mixed) (complementedIn t)) (complementedIn t) (coefficientIn t)))
+        ≡ cond (b && every (2 ^ z .n) (showsBack (z .class) (z .n) (z .k) (f .mixed) (f .fixed) choice (complementedIn t) (coefficientIn t)))
         (compared (firstDifference (z .n) (invertedValue (z .n) (complementedIn t) (coefficientIn t) v) (at table)))
         NotOfClass
-    go true h = rw (blocks-whole (legal-mixed (z .n) (z .k) (f .mixed) (f .fixed) h), complements-whole, coefficients-whole)
+    go true h = rw (blocks-whole (legal-pair (z .n) (z .k) (f .mixed) (f .fixed) h), complements-whole, coefficients-whole)
     go false h = refl
 
 -- ---- what was handed up

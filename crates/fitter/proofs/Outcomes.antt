@@ -1,5 +1,5 @@
 -- The answer on a listing that was read, in document 02's words: `Same` where a member prints it and gives the table (`same-to`, `same-from`),
--- `NotOfClass` where no member prints its cubes (`not-to`, `not-from`), and else the lowest point that differs (`differs-to`, `differs-from`).
+-- `NotOfClass` where no member of the table's class prints its cubes (`not-to`, `not-from`), and else the lowest point that differs (`differs-to`, `differs-from`).
 use mathlib.Core.Bool.{Bool, true, false, cond}
 use mathlib.Core.List.{List}
 use mathlib.Core.Logic.{_↔_}
@@ -9,10 +9,11 @@ use native.Mathlib.Omega.{arith}
 use lib.Bits.{bitXor}
 use Rattle.numbers.specs.Bytes.{at}
 use Rattle.expansions.specs.Least.{Best, nothing, best}
-use Rattle.expansions.specs.Members.{polarity}
+use Rattle.expansions.specs.Members.{polarity, shownChoice}
+use Rattle.expansions.proofs.Members.{member-class}
 use Rattle.listings.specs.Listing.{listingWith, printedCubes}
 use Rattle.listings.specs.Meaning.{listingValue, listingCubes, statedMixed, statedFixed}
-use Rattle.membership.specs.Class.{ofClass, shownPolarity, Printable}
+use Rattle.membership.specs.Class.{Shown, ofClass, Printable}
 use Rattle.membership.proofs.Class.{class-exactly, class-member, class-lines, class-value}
 use Rattle.table_texts.specs.declared.sizes.Sizes.{Sizes}
 use Rattle.listing_texts.specs.declared.form.Form.{Form}
@@ -54,30 +55,33 @@ module _ (z : Sizes) (table s : List ℕ) (f : Form) (v : ℕ) (t : List ℕ) (r
   values = value-listed z s v (f .mixed) (f .fixed) w c (known .characters) (known .mask) (known .rows .outputs)
 
   abbrev class : Bool
-  class = ofClass (z .n) (z .k) (f .mixed) (f .fixed) w c
+  class = ofClass (z .class) (z .n) (z .k) (f .mixed) (f .fixed) w c
 
   abbrev found : Best
   found = firstDifference (z .n) given (at table)
 
   -- ---- the class
 
-  exactly : (class ≡ true) ↔ Printable (z .n) (z .k) (f .mixed) (f .fixed) w c
-  exactly = class-exactly (z .n) (z .k) (f .mixed) (f .fixed) w c (rows-shown (z .n) (z .m) t (known .rows))
+  cubes-shown : Shown (z .n) w c
+  cubes-shown = rows-shown (z .n) (z .m) t (known .rows)
 
-  class-to : class ≡ true → (φ : ℕ → ℕ) × (c′ : ℕ → ℕ) × PrintsCubes z s φ c′
-  class-to h = let p = exactly .0 h in (p .0, p .1, (rw (mixed, fixed) (p .2), rw (mixed, fixed, cubes) (p .3)))
+  exactly : (class ≡ true) ↔ Printable (z .class) (z .n) (z .k) (f .mixed) (f .fixed) w c
+  exactly = class-exactly (z .class) (z .n) (z .k) (f .mixed) (f .fixed) w c (known .sized .mixed .0) cubes-shown
 
-  class-from : (φ c′ : ℕ → ℕ) → PrintsCubes z s φ c′ → class ≡ true
-  class-from φ c′ p = exactly .1 (φ, c′, rw (mixed, fixed) at (p .0), rw (mixed, fixed, cubes) at (p .1))
+  class-to : class ≡ true → (w′ : ℕ → ℕ) × (c′ : ℕ → ℕ) × PrintsCubes z s w′ c′
+  class-to h = let p = exactly .0 h in (p .0, p .1, (rw (mixed, fixed) (p .2), rw cubes (p .3)))
 
-  pub not-to : judged z table (shown f v t) ≡ NotOfClass → (φ c′ : ℕ → ℕ) → PrintsCubes z s φ c′ → ⊥
+  class-from : (w′ c′ : ℕ → ℕ) → PrintsCubes z s w′ c′ → class ≡ true
+  class-from w′ c′ p = exactly .1 (w′, c′, rw (mixed, fixed) at (p .0), rw cubes at (p .1))
+
+  pub not-to : judged z table (shown f v t) ≡ NotOfClass → (w′ c′ : ℕ → ℕ) → PrintsCubes z s w′ c′ → ⊥
   unfolding judged
-  not-to e φ c′ p = go found (rw (class-from φ c′ p) at e) where
+  not-to e w′ c′ p = go found (rw (class-from w′ c′ p) at e) where
     go : (b : Best) → compared b ≡ NotOfClass → ⊥
     go nothing g = let z : _≡_ {A = ℕ} 0 1 = cc in omega arith
     go (best q) g = let z : _≡_ {A = ℕ} 0 1 = cc in omega arith
 
-  pub not-from : ((φ c′ : ℕ → ℕ) → PrintsCubes z s φ c′ → ⊥) → judged z table (shown f v t) ≡ NotOfClass
+  pub not-from : ((w′ c′ : ℕ → ℕ) → PrintsCubes z s w′ c′ → ⊥) → judged z table (shown f v t) ≡ NotOfClass
   unfolding judged
   not-from none = go class refl where
     go : (b : Bool) → class ≡ b → cond b (compared found) NotOfClass ≡ NotOfClass
@@ -106,35 +110,36 @@ module _ (z : Sizes) (table s : List ℕ) (f : Form) (v : ℕ) (t : List ℕ) (r
   compared-differs nothing p e = let z : _≡_ {A = ℕ} 0 1 = cc in absurd (omega arith)
   compared-differs (best q) p e = let same : q ≡ p = cc in ap best same
 
-  pub same-to : judged z table (shown f v t) ≡ Same → (u : ℕ) × (φ : ℕ → ℕ) × (c′ : ℕ → ℕ) × PrintsTable z table s u φ c′
+  pub same-to : judged z table (shown f v t) ≡ Same → (u : ℕ) × (w′ : ℕ → ℕ) × (c′ : ℕ → ℕ) × PrintsTable z table s u w′ c′
   unfolding termListing listingWith
   same-to e =
       let ends = points Same e (λ g. let z : _≡_ {A = ℕ} 0 1 = cc in omega arith) in
       let none = compared-same found (ends .1) in
-      let φ = shownPolarity (z .n) (f .mixed) w in
-      let value-is = class-value (z .n) (z .k) (f .mixed) (f .fixed) w c (ends .0) in (
+      let x = shownChoice (z .class) (z .n) (z .k) (f .mixed) w in
+      let member = class-member (z .class) (z .n) (z .k) (f .mixed) (f .fixed) w c (ends .0) (known .sized .mixed .0) cubes-shown in
+      let value-is = class-value (z .class) (z .n) (z .k) (f .mixed) (f .fixed) w c (ends .0) in (
         v,
-        φ,
+        polarity (z .class) (z .n) (z .k) (f .mixed) (f .fixed) x,
         c,
         record {
-          member = rw (mixed, fixed) (class-member (z .n) (z .k) (f .mixed) (f .fixed) w c (ends .0));
+          in-class = rw (mixed, fixed) (member-class (z .class) (z .n) (z .k) (f .mixed) (f .fixed) x member);
           outputs = known .rows .outputs;
           mask = known .mask;
-          lines = rw (mixed, fixed) (known .characters ∙ rw (class-lines (z .n) (z .k) (f .mixed) (f .fixed) w c (ends .0) (z .m)));
-          gives = λ p h. rw (mixed, fixed) (ap (λ (x : ℕ). bitXor x v) (value-is p) ∙ difference-none given (at table) (z .n) none p h);
+          lines = rw (mixed, fixed) (known .characters ∙ rw (class-lines (z .class) (z .n) (z .k) (f .mixed) (f .fixed) w c (ends .0) (z .m)));
+          gives = λ p h. ap (λ (x : ℕ). bitXor x v) (value-is p) ∙ difference-none given (at table) (z .n) none p h;
         },
       )
 
-  pub same-from : (u : ℕ) (φ c′ : ℕ → ℕ) → PrintsTable z table s u φ c′ → judged z table (shown f v t) ≡ Same
-  same-from u φ c′ p =
-      let printed = cubes-listed z s u (statedMixed s) (statedFixed s) (polarity (z .n) (statedMixed s) (statedFixed s) φ) c′ (p .lines) in
-      let listed = value-listed z s u (statedMixed s) (statedFixed s) (polarity (z .n) (statedMixed s) (statedFixed s) φ) c′ (p .lines) (p .mask) (p .outputs) in
-      let inside = class-from φ c′ (p .member, sym printed) in
+  pub same-from : (u : ℕ) (w′ c′ : ℕ → ℕ) → PrintsTable z table s u w′ c′ → judged z table (shown f v t) ≡ Same
+  same-from u w′ c′ p =
+      let printed = cubes-listed z s u (statedMixed s) (statedFixed s) w′ c′ (p .lines) in
+      let listed = value-listed z s u (statedMixed s) (statedFixed s) w′ c′ (p .lines) (p .mask) (p .outputs) in
+      let inside = class-from w′ c′ (p .in-class, sym printed) in
       points-from inside
       ∙ ap compared (none-differ given (at table) (z .n) (λ q h. sym (values q) ∙ listed q ∙ p .gives q h))
 
   pub differs-to : (p : ℕ) → judged z table (shown f v t) ≡ Differs p
-      → ((φ : ℕ → ℕ) × (c′ : ℕ → ℕ) × PrintsCubes z s φ c′) × LowestDifference (z .n) table s p
+      → ((w′ : ℕ → ℕ) × (c′ : ℕ → ℕ) × PrintsCubes z s w′ c′) × LowestDifference (z .n) table s p
   differs-to p e =
       let ends = points (Differs p) e (λ g. let z : _≡_ {A = ℕ} 0 1 = cc in omega arith) in
       let lowest = difference-at given (at table) (z .n) p (compared-differs found p (ends .1)) in (
@@ -146,8 +151,8 @@ module _ (z : Sizes) (table s : List ℕ) (f : Form) (v : ℕ) (t : List ℕ) (r
         },
       )
 
-  pub differs-from : (p : ℕ) → (φ c′ : ℕ → ℕ) → PrintsCubes z s φ c′ → LowestDifference (z .n) table s p → judged z table (shown f v t) ≡ Differs p
-  differs-from p φ c′ prints lowest =
-      points-from (class-from φ c′ prints)
+  pub differs-from : (p : ℕ) → (w′ c′ : ℕ → ℕ) → PrintsCubes z s w′ c′ → LowestDifference (z .n) table s p → judged z table (shown f v t) ≡ Differs p
+  differs-from p w′ c′ prints lowest =
+      points-from (class-from w′ c′ prints)
       ∙ ap compared
       (lowest-differs given (at table) (z .n) p (lowest .point) (λ g. lowest .differs (values p ∙ g)) (λ q h. sym (values q) ∙ lowest .before q h))

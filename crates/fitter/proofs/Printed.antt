@@ -12,9 +12,9 @@ use Rattle.listings.specs.Listing.{line, tabbed, decimal}
 use Rattle.listings.proofs.Lengths.{digitsOf-le, length-numbers}
 use Rattle.expansions.specs.declared.kinds.Kind.the-variants.{Kronecker}
 use Rattle.table_texts.specs.declared.sizes.Design.{Design}
-use Rattle.table_texts.specs.Design.{blockDesign}
+use Rattle.table_texts.specs.Design.{mixedDesign}
 use Rattle.table_texts.specs.Read.{given, reading}
-use Rattle.table_texts.proofs.Design.{block-sized}
+use Rattle.table_texts.proofs.Design.{mixed-sized}
 use Rattle.table_texts.proofs.Length.{accepted-text-first}
 use Rattle.table_texts.proofs.read.Accepted.{reading-accepted}
 use Rattle.listing_texts.proofs.BesideKronecker.{beside-first}
@@ -62,8 +62,8 @@ print-holds text listing texts listings held r count et el c put =
       within = omega (arith, ec, ap length filled, length-append (printed text listing) (replicate (18 - length (printed text listing)) 0));
       shown = shown;
       whole = λ z table e p.
-          let sized = block-sized (blockDesign z) (z .k) refl (reading-accepted text (blockDesign z) table e .sized) in
-          shown ∙ rw (accepted-text-first text (blockDesign z) table e, passes-first z listing sized p);
+          let sized = mixed-sized (mixedDesign z) (z .class) (z .k) refl (reading-accepted text (mixedDesign z) table e .sized) in
+          shown ∙ rw (accepted-text-first text (mixedDesign z) table e, passes-first z listing sized p);
       whole-kronecker = λ d table e k. shown ∙ ap answerLine (first-refused text listing d table e k);
       meaning = check-words (judged text) (judged listing) (checked (reading (judged text)) (judged listing)) refl;
     }

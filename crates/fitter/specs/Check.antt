@@ -1,7 +1,8 @@
 -- The fitter's check: the answer for every pair of byte strings; and when each answer is given, in document 02's words, over the listing's
 -- bytes. Document 02, W-201: "Read a listing beside its table text and say: not of the class; differs, with the lowest point that differs; or
 -- same." W-202: "In the fitter's check a `kron` listing is 11, line 1, and a `K` table beside a `form` listing is 12." W-203: "The fitter's check takes
--- both families; a listing of the other family than its table is 12, line 1." W-205: "The fitter's check reads the line and inverts."
+-- both families; a listing of the other family than its table is 12, line 1." W-205: "The fitter's check reads the line and inverts." W-207: of an `f`
+-- field, "the listing repeats that field, and the fitter judges by it".
 use mathlib.Core.Bool.{cond}
 use mathlib.Core.List.{List}
 use mathlib.Core.Logic.{_⊎_, _↔_}
@@ -10,15 +11,15 @@ use Prim.Native.Nat.{ℕ, _^_, _<_}
 use Rattle.numbers.specs.Bytes.{at}
 use Rattle.expansions.specs.declared.families.Family.{Family}
 use Rattle.expansions.specs.declared.kinds.Kind.{Kind}
-use Rattle.expansions.specs.declared.kinds.Kind.the-variants.{Block, Kronecker}
+use Rattle.expansions.specs.declared.kinds.Kind.the-variants.{Mixed, Kronecker}
 use Rattle.expansions.specs.Least.{Best, nothing, best}
-use Rattle.expansions.specs.Members.{polarity, Member, Gives}
+use Rattle.expansions.specs.Members.{InClass, Gives}
 use Rattle.listings.specs.Listing.{printedCubes}
 use Rattle.listings.specs.Meaning.{listingValue, listingCubes, statedMixed, statedFixed}
 use Rattle.membership.specs.Class.{ofClass}
 use Rattle.table_texts.specs.declared.sizes.Sizes.{Sizes}
 use Rattle.table_texts.specs.declared.sizes.Design.{Design}
-use Rattle.table_texts.specs.Design.{blockDesign}
+use Rattle.table_texts.specs.Design.{mixedDesign}
 use Rattle.table_texts.specs.Read as tables
 use Rattle.listing_texts.specs.Form.{FormListing}
 use Rattle.listing_texts.specs.Inv.{NoInv}
@@ -39,18 +40,18 @@ compared (best p) = Differs p
 -- "Class is judged before points.": the listing's refusal, or the answer on its rows
 unfoldable pub judged : Sizes → List ℕ → ListingReading → Checked
 judged z table (shown f v rows) =
-    cond (ofClass (z .n) (z .k) (f .mixed) (f .fixed) (complementedIn rows) (coefficientIn rows))
+    cond (ofClass (z .class) (z .n) (z .k) (f .mixed) (f .fixed) (complementedIn rows) (coefficientIn rows))
     (compared (firstDifference (z .n) (invertedValue (z .n) (complementedIn rows) (coefficientIn rows) v) (at table)))
     NotOfClass
 judged z table (refused number line) = Refused number line
 
 -- a listing beside a table with the sizes z
-abbrev pub judgedBlock : Sizes → List ℕ → List ℕ → Checked
-judgedBlock z table s = judged z table (listingReading z s)
+abbrev pub judgedMixed : Sizes → List ℕ → List ℕ → Checked
+judgedMixed z table s = judged z table (listingReading z s)
 
 -- a listing beside a table of n inputs and m outputs for a part of the family, by the kind of k: "a `K` table beside a `form` listing is 12"
 abbrev pub judgedKind : Family → ℕ → ℕ → Kind → List ℕ → List ℕ → Checked
-judgedKind family n m (Block k) table s = judgedBlock (record { n = n; m = m; k = k; family = family }) table s
+judgedKind family n m (Mixed C k) table s = judgedMixed (record { n = n; m = m; class = C; k = k; family = family }) table s
 judgedKind family n m Kronecker table s = Refused (besideKronecker s) 1
 
 -- a listing beside the table of an accepted text
@@ -64,20 +65,20 @@ checked (tables.refused number line) s = Refused number line
 
 -- ---- the answer in document 02's words
 
--- "a member with the listing's M and i" that prints the listing's cubes: a block polarity for each block, and any coefficients
-abbrev pub PrintsCubes : Sizes → List ℕ → (φ c : ℕ → ℕ) → Type 0
-PrintsCubes z s φ c =
-    Member (z .n) (z .k) (statedMixed s) (statedFixed s) φ
-    × (printedCubes (z .n) (polarity (z .n) (statedMixed s) (statedFixed s) φ) c ≡ listingCubes s)
+-- a "member with the listing's M and i" that prints the listing's cubes: polarities w t of the terms t, of the class that the table's field k selects, and
+-- any coefficients. In document 01's class those in M are one for each block; in the free class "each term having its own polarities in M"
+abbrev pub PrintsCubes : Sizes → List ℕ → (w c : ℕ → ℕ) → Type 0
+PrintsCubes z s w c = InClass (z .class) (z .n) (z .k) (statedMixed s) (statedFixed s) w × (printedCubes (z .n) w c ≡ listingCubes s)
 
--- "some member of 01's class with the listing's M and i prints just those lines, outputs and all, and gives every output at every point": the
--- bytes are those of the member's listing with the inversion mask v, its coefficients have "bits m to 7 zero" and so has the mask, and it gives the table
-pub record PrintsTable (z : Sizes) (table s : List ℕ) (v : ℕ) (φ c : ℕ → ℕ) : Type 0 where
-  pub member : Member (z .n) (z .k) (statedMixed s) (statedFixed s) φ
+-- "some member of 01's class with the listing's M and i prints just those lines, outputs and all, and gives every output at every point", and with an
+-- `f` field some expansion of the free class: the bytes are those of its listing with the inversion mask v, its coefficients have "bits m to 7 zero" and so
+-- has the mask, and it gives the table
+pub record PrintsTable (z : Sizes) (table s : List ℕ) (v : ℕ) (w c : ℕ → ℕ) : Type 0 where
+  pub in-class : InClass (z .class) (z .n) (z .k) (statedMixed s) (statedFixed s) w
   pub outputs : (t : ℕ) → t < 2 ^ z .n → c t < 2 ^ z .m
   pub mask : v < 2 ^ z .m
-  pub lines : s ≡ termListing z v (statedMixed s) (statedFixed s) (polarity (z .n) (statedMixed s) (statedFixed s) φ) c
-  pub gives : Gives (z .n) v (statedMixed s) (statedFixed s) φ c (at table)
+  pub lines : s ≡ termListing z v (statedMixed s) (statedFixed s) w c
+  pub gives : Gives (z .n) v w c (at table)
 
 -- p is "the lowest point that differs": read from its own lines, inverters and all, the listing gives the table's byte at each point below p, and another
 -- at p
@@ -89,12 +90,13 @@ pub record LowestDifference (n : ℕ) (table s : List ℕ) (p : ℕ) : Type 0 wh
 -- when each answer is given beside an accepted table text whose k is a number
 pub record Answers (z : Sizes) (table s : List ℕ) (r : Checked) : Type 0 where
   -- "'Not of the class' is said exactly when no member with the listing's M and i prints those cubes.", of the listings that are not refused
-  pub not-of-class : (r ≡ NotOfClass) ↔ (Passes z s × ((φ c : ℕ → ℕ) → PrintsCubes z s φ c → ⊥))
+  pub not-of-class : (r ≡ NotOfClass) ↔ (Passes z s × ((w c : ℕ → ℕ) → PrintsCubes z s w c → ⊥))
   -- "'Same' is said exactly when some member .. prints just those lines, outputs and all, and gives every output at every point, cheap or not."
-  pub same : (r ≡ Same) ↔ ((v : ℕ) × (φ : ℕ → ℕ) × (c : ℕ → ℕ) × PrintsTable z table s v φ c)
+  pub same : (r ≡ Same) ↔ ((v : ℕ) × (w : ℕ → ℕ) × (c : ℕ → ℕ) × PrintsTable z table s v w c)
   -- a member prints the cubes, and p is the lowest point that differs
-  pub differs : (p : ℕ) → (r ≡ Differs p) ↔ (Passes z s × ((φ : ℕ → ℕ) × (c : ℕ → ℕ) × PrintsCubes z s φ c) × LowestDifference (z .n) table s p)
-  -- a listing is refused exactly when it is not the listing of some terms, with the table's n, m, k and family and with its own counts
+  pub differs : (p : ℕ) → (r ≡ Differs p) ↔ (Passes z s × ((w : ℕ → ℕ) × (c : ℕ → ℕ) × PrintsCubes z s w c) × LowestDifference (z .n) table s p)
+  -- a listing is refused exactly when it is not the listing of some terms, with the table's n, m, k, class and family and with its
+  -- own counts
   pub refusal : ((number line : ℕ) → r ≡ Refused number line → ⊥) ↔ Passes z s
 
 -- the answer beside an accepted `K` table: "a `K` table beside a `form` listing is 12", a `form2` listing too, and any other listing 11, each with line 1
@@ -106,13 +108,13 @@ pub record KroneckerAnswers (s : List ℕ) (r : Checked) : Type 0 where
 -- the check, for every pair of byte strings
 pub record Check (text s : List ℕ) (r : Checked) : Type 0 where
   pub answer : r ≡ checked (tables.reading text) s
-  pub words : (z : Sizes) (table : List ℕ) → tables.reading text ≡ tables.given (blockDesign z) table → Answers z table s r
-  -- "n, m or k unlike the table's is 12 with line 1, before any later line is read"; "a listing of the other family than its table is 12, line 1":
-  -- whatever the later lines are
-  pub unlike : (z : Sizes) (table : List ℕ) → tables.reading text ≡ tables.given (blockDesign z) table → (l : FormListing s) → (l .form .sizes ≡ z → ⊥)
+  pub words : (z : Sizes) (table : List ℕ) → tables.reading text ≡ tables.given (mixedDesign z) table → Answers z table s r
+  -- "n, m or k unlike the table's is 12 with line 1, before any later line is read"; "a listing of the other family than its table is 12, line 1"; W-207:
+  -- "`f` with a digit above 2 or above n is .. in a listing 12", and so is an `f` field beside a digit: whatever the later lines are
+  pub unlike : (z : Sizes) (table : List ℕ) → tables.reading text ≡ tables.given (mixedDesign z) table → (l : FormListing s) → (l .form .sizes ≡ z → ⊥)
       → r ≡ Refused 12 1
   -- W-205: "a second line, `inv` and m characters"; W-201: "A broken listing line .. is 11 with its line in the listing": where the first line passes and
   -- the second is broken or is not there, whatever the later lines are
-  pub second : (z : Sizes) (table : List ℕ) → tables.reading text ≡ tables.given (blockDesign z) table → (l : FormListing s) → l .form .sizes ≡ z
+  pub second : (z : Sizes) (table : List ℕ) → tables.reading text ≡ tables.given (mixedDesign z) table → (l : FormListing s) → l .form .sizes ≡ z
       → NoInv (z .m) (l .rest) → r ≡ Refused 11 2
   pub kronecker : (d : Design) (table : List ℕ) → tables.reading text ≡ tables.given d table → d .kind ≡ Kronecker → KroneckerAnswers s r

@@ -9,7 +9,7 @@ use Rattle.listings.specs.Listing.{line, decimal}
 use Rattle.expansions.specs.declared.kinds.Kind.the-variants.{Kronecker}
 use Rattle.table_texts.specs.declared.sizes.Sizes.{Sizes}
 use Rattle.table_texts.specs.declared.sizes.Design.{Design}
-use Rattle.table_texts.specs.Design.{blockDesign}
+use Rattle.table_texts.specs.Design.{mixedDesign}
 use Rattle.table_texts.specs.Read.{given, reading}
 use Rattle.listing_texts.specs.Listings.{Passes}
 use Rattle.text.specs.Print.{judged, refusedLine}
@@ -35,7 +35,7 @@ pub record Print (text listing held : List ℕ) (count : ℕ) : Type 0 where
   pub within : count ≤ length held
   pub shown : take count held ≡ printed text listing
   -- the first 8,192 bytes of a text that is accepted and of a listing that passes are the whole of them
-  pub whole : (z : Sizes) (table : List ℕ) → reading text ≡ given (blockDesign z) table → Passes z listing
+  pub whole : (z : Sizes) (table : List ℕ) → reading text ≡ given (mixedDesign z) table → Passes z listing
       → take count held ≡ answerLine (checked (reading text) listing)
   -- and beside a `K` table the first 8,192 bytes of any listing give its refusal
   pub whole-kronecker : (d : Design) (table : List ℕ) → reading text ≡ given d table → d .kind ≡ Kronecker

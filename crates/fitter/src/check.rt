@@ -42,7 +42,7 @@ fn judge_read(sizes: Sizes, table: &[u8; Expansion::PLACES], read: ListingRead) 
         return Checked::NotOfClass; // even with no term line
     }
     if !all_show_back(
-        n,
+        sizes,
         record.mixed,
         record.fixed,
         &blocks,
@@ -57,7 +57,7 @@ fn judge_read(sizes: Sizes, table: &[u8; Expansion::PLACES], read: ListingRead) 
     }
 }
 
-// Judges a listing beside a table of the block class that was read.
+// Judges a listing beside a table of a class that was read.
 fn check_table(sizes: Sizes, table: &[u8; Expansion::PLACES], listing: &[u8]) -> Checked
     requires { ⌜ sizes .n ≤ 8 ⌝ }
     ensures { λ r. ⌜ r ≡ judged sizes (now (table .entry)) (listingReading sizes (now (listing .entry))) ⌝ }
@@ -78,10 +78,11 @@ fn check_design(design: Design, table: &[u8; Expansion::PLACES], listing: &[u8])
     let kind = design.kind;
     let family = design.family;
     match kind {
-        Kind::Block(k) => {
+        Kind::Mixed(class, k) => {
             let sizes = Sizes {
                 n: design.n,
                 m: design.m,
+                class,
                 k,
                 family,
             };

@@ -1,5 +1,6 @@
-// Whether a listing is of the class: its M and i are a member's, and each of its cubes is the one that its term has under the polarities
-// that the cubes show. The polarities were read off the cubes before, so one pass over the terms is enough.
+// Whether a listing is of the class: its M and i are a member's, and each of its cubes is the one that its term has under the choices of the
+// blocks that the cubes show. These were read off the cubes before, so one pass over the terms is enough. In the free class each term has its
+// own polarity in M, so that only literals outside M bind.
 use points::split::gather;
 use points::split::ones_in;
 use points::split::wide;
@@ -31,9 +32,9 @@ pub fn legal_pair(sizes: Sizes, mixed: usize, fixed: usize) -> bool
     gather(n, mixed, fixed) == 0
 }
 
-// Whether the cube of the term t, where it has one, shows the term's literals as its block has them.
+// Whether the cube of the term t, where it has one, shows the term's literals as they are under the choice of its block.
 fn shows_back(
-    n: usize,
+    sizes: Sizes,
     mixed: usize,
     fixed: usize,
     blocks: &[u8; Expansion::PLACES],
@@ -41,31 +42,40 @@ fn shows_back(
     complemented: u8,
     t: usize,
 ) -> bool
-    requires { ⌜ (n ≤ 8) × (mixed < 2 ^ n) × (fixed < 2 ^ n) ⌝ }
-    ensures { λ r. ⌜ r ≡ showsBack n mixed fixed (at (now (blocks .entry))) (λ _. complemented) (λ _. coefficient) t ⌝ }
+    requires { ⌜ (sizes .n ≤ 8) × (mixed < 2 ^ sizes .n) × (fixed < 2 ^ sizes .n) ⌝ }
+    ensures { λ r. ⌜ r ≡ showsBack (sizes .class) (sizes .n) (sizes .k) mixed fixed (at (now (blocks .entry))) (λ _. complemented) (λ _. coefficient) t ⌝ }
 {
+    let class = sizes.class;
     if coefficient == 0 {
         return true;
     }
-    t & term_polarity(n, mixed, fixed, blocks, t) == wide(complemented)
+    t & term_polarity(class, sizes.n, sizes.k, mixed, fixed, blocks, t) == wide(complemented)
 }
 
 // Whether every cube does.
 pub fn all_show_back(
-    n: usize,
+    sizes: Sizes,
     mixed: usize,
     fixed: usize,
     blocks: &[u8; Expansion::PLACES],
     coefficients: &[u8; Expansion::PLACES],
     complements: &[u8; Expansion::PLACES],
 ) -> bool
-    requires { ⌜ (n ≤ 8) × (mixed < 2 ^ n) × (fixed < 2 ^ n) ⌝ }
-    ensures { λ r. ⌜ r ≡ every (2 ^ n) (showsBack n mixed fixed (at (now (blocks .entry))) (at (now (complements .entry))) (at (now (coefficients .entry)))) ⌝ }
+    requires { ⌜ (sizes .n ≤ 8) × (mixed < 2 ^ sizes .n) × (fixed < 2 ^ sizes .n) ⌝ }
+    ensures { λ r. ⌜ r ≡ every (2 ^ sizes .n) (showsBack (sizes .class) (sizes .n) (sizes .k) mixed fixed (at (now (blocks .entry))) (at (now (complements .entry))) (at (now (coefficients .entry)))) ⌝ }
 {
-    let size: usize = 1 << n;
+    let size: usize = 1 << sizes.n;
     let mut t: usize = 0;
     while t < size {
-        if !shows_back(n, mixed, fixed, blocks, coefficients[t], complements[t], t) {
+        if !shows_back(
+            sizes,
+            mixed,
+            fixed,
+            blocks,
+            coefficients[t],
+            complements[t],
+            t,
+        ) {
             return false;
         }
         t += 1;

@@ -2,7 +2,7 @@
 -- else 11 (`other-exactly`). The first 8,192 bytes of a listing have the same number (`beside-first`). A `kron` listing is 11, line 1, beside
 -- every table (`kron-beside`, `kron-read`).
 use mathlib.Core.Bool.{false, and-false}
-use mathlib.Core.List.{List, [], _∷_, _++_, map, append-assoc}
+use mathlib.Core.List.{List, [], _∷_, _++_, append-assoc}
 use mathlib.Core.Logic.{_⊎_, inl, inr, _↔_}
 use mathlib.Core.Path.{_≡_, refl, sym, ap, _∙_}
 use Prim.Native.Nat.{ℕ, _+_, _-_, _≤_}
@@ -13,30 +13,30 @@ use lib.Seq.{take-append-add}
 use Rattle.expansions.specs.declared.families.Family.{Family}
 use Rattle.expansions.specs.declared.families.Family.the-variants.{One, Two}
 use Rattle.listings.specs.Parts.{parts, bytes, same, fields, field}
-use Rattle.listings.specs.Listing.{tabbed, line, decimal, formWord, formLine}
+use Rattle.listings.specs.Listing.{tabbed, line, formWord, formLine}
 use Rattle.listings.proofs.Joined.{parts-lines}
-use Rattle.listings.proofs.Lengths.{digitsOf-le, length-formWord, length-formLine}
-use Rattle.listings.proofs.Meaning.{plain-form, plain-numbers}
+use Rattle.listings.proofs.Lengths.{digitsOf-le, length-formWord, length-formLine, length-formFields}
+use Rattle.listings.proofs.Meaning.{plain-form}
 use Rattle.listings.proofs.Parts.{separated, parts-joined}
 use Rattle.fields.specs.Fields.{headed, familyOf}
 use Rattle.table_texts.specs.declared.sizes.Sizes.{Sizes}
 use Rattle.listing_texts.specs.declared.form.Form.{Form}
 use Rattle.listing_texts.specs.declared.form.FirstLine.{FirstLine}
 use Rattle.listing_texts.specs.declared.form.FirstLine.the-variants.{States, Wrong}
-use Rattle.listing_texts.specs.Form.{firstLine, formNumbers, FormListing, KronListing}
+use Rattle.listing_texts.specs.Form.{firstLine, statedFields, FormListing, KronListing}
 use Rattle.listing_texts.specs.Read.{refused, allLines, listingReading, besideLine, besideLines, besideKronecker}
-use Rattle.listing_texts.proofs.FormRead.{form-said, form-read}
+use Rattle.listing_texts.proofs.FormRead.{plain-stated, form-said, form-read}
+use Rattle.listing_texts.proofs.Length.{mark-le}
 
 -- ---- a `form` or `form2` listing
 
 form-beside : (s : List ℕ) → FormListing s → besideKronecker s ≡ 12
 unfolding besideKronecker besideLines
 form-beside s g =
-    let numbers : List ℕ = formNumbers (g .form) in
     let family : Family = g .form .sizes .family in
     ap besideKronecker (g .characters)
     ∙ rw (
-      parts-lines (formWord family) (map decimal numbers) (g .rest) (plain-form family) (plain-numbers numbers),
+      parts-lines (formWord family) (statedFields (g .form)) (g .rest) (plain-form family) (plain-stated (g .form)),
       form-said (g .form) (g .digits),
     )
 
@@ -48,7 +48,7 @@ lines-form s l (l′ ∷ ls) e h = go (firstLine l) refl h where
   go (States f) says h =
       let read = form-read l f says in
       let rest : List ℕ = l′ ++ separated 10 ls in
-      let word : List ℕ = formWord (f .sizes .family) ++ tabbed (map decimal (formNumbers f)) in
+      let word : List ℕ = formWord (f .sizes .family) ++ tabbed (statedFields f) in
       record {
         form = f;
         digits = read .1;
@@ -83,13 +83,22 @@ other-exactly s = (λ e g. omega (arith, form-beside s g), λ none. go none (bes
 
 -- ---- the first 8,192 bytes
 
-first-le : (f : Form) → length (line (formWord (f .sizes .family)) (map decimal (formNumbers f))) ≤ 41
+first-le : (f : Form) → length (line (formWord (f .sizes .family)) (statedFields f)) ≤ 42
 unfolding formLine
-first-le f = omega (arith, length-formLine (f .sizes .family) (formNumbers f), length-formWord (f .sizes .family), digitsOf-le (formNumbers f))
+first-le f =
+    let z = f .sizes in
+    omega (
+      arith,
+      length-formLine (z .family) (statedFields f),
+      length-formWord (z .family),
+      length-formFields (z .class) (z .n) (z .m) (z .k) (f .mixed) (f .fixed) (f .products) (f .literals),
+      digitsOf-le (z .n ∷ z .m ∷ z .k ∷ f .mixed ∷ f .fixed ∷ f .products ∷ f .literals ∷ []),
+      mark-le (z .class),
+    )
 
 form-first : (s : List ℕ) → FormListing s → FormListing (take 8192 s)
 form-first s g =
-    let first : List ℕ = line (formWord (g .form .sizes .family)) (map decimal (formNumbers (g .form))) in
+    let first : List ℕ = line (formWord (g .form .sizes .family)) (statedFields (g .form)) in
     let long : 8192 ≡ length first + (8192 - length first) = omega (arith, first-le (g .form)) in
     record {
       form = g .form;
@@ -103,7 +112,7 @@ form-first s g =
 
 form-whole : (s : List ℕ) → FormListing (take 8192 s) → FormListing s
 form-whole s g =
-    let first : List ℕ = line (formWord (g .form .sizes .family)) (map decimal (formNumbers (g .form))) in
+    let first : List ℕ = line (formWord (g .form .sizes .family)) (statedFields (g .form)) in
     record {
       form = g .form;
       digits = g .digits;

@@ -1,7 +1,7 @@
 -- Which listings pass beside a table. A listing that is read is the listing that is written for what was read (`listing-read`), and the listing of
 -- any terms is read as these terms (`listing-written`). So just these pass (`passes-exactly`).
 use mathlib.Core.Bool.{Bool, true, false, cond}
-use mathlib.Core.List.{List, [], _∷_, _++_, map, append-assoc}
+use mathlib.Core.List.{List, [], _∷_, _++_, append-assoc}
 use mathlib.Core.Logic.{_↔_}
 use mathlib.Core.Path.{_≡_, refl, sym, ap, ap₂, _∙_}
 use Prim.Native.Nat.{ℕ, suc, _^_, _<_}
@@ -10,17 +10,19 @@ use native.Mathlib.Omega.{arith}
 use borrow.Author.Tests.{eq-eqb, eqb-true}
 use lib.Dec.{eqb}
 use lib.ListN.{length, drop}
-use Rattle.numbers.specs.Refusals.{sizesRefusal, Sized}
+use Rattle.numbers.specs.Refusals.{Sized}
 use Rattle.numbers.proofs.Shifts.{points-le}
 use Rattle.numbers.proofs.Tests.{both-left, both-right}
-use Rattle.numbers.proofs.refusals.Judging.{sizes-none, sizes-accepted}
 use Rattle.expansions.specs.declared.families.Family.{Family}
+use Rattle.expansions.specs.Classes.{mostMixed}
 use Rattle.expansions.specs.Costs.{products, literals}
+use Rattle.expansions.proofs.Classes.{most-three}
 use Rattle.expansions.proofs.Costs.{products-le, products-ext, literals-ext, literals-lt}
 use Rattle.listings.specs.Parts.{parts, bytes}
-use Rattle.listings.specs.Listing.{line, decimal, outputBytes, formWord, formLine, invLine, termLines, listingWith}
+use Rattle.listings.specs.Listing.{line, outputBytes, formFields, formWord, formLine, invLine, termLines, listingWith}
 use Rattle.listings.proofs.Joined.{parts-lines}
-use Rattle.listings.proofs.Meaning.{plain-form, plain-numbers, plain-outputs, plain-inv}
+use Rattle.listings.proofs.Forms.{plain-fields}
+use Rattle.listings.proofs.Meaning.{plain-form, plain-outputs, plain-inv}
 use Rattle.fields.specs.declared.values.Number.{Number}
 use Rattle.fields.specs.declared.values.Number.the-variants as number
 use Rattle.fields.specs.declared.values.Number.the-variants.{Is}
@@ -32,13 +34,13 @@ use Rattle.table_texts.specs.declared.sizes.Sizes.{Sizes}
 use Rattle.listing_texts.specs.declared.form.Form.{Form}
 use Rattle.listing_texts.specs.declared.form.FirstLine.{FirstLine}
 use Rattle.listing_texts.specs.declared.form.FirstLine.the-variants.{States, Wrong}
-use Rattle.listing_texts.specs.Form.{firstLine, formNumbers, Digits}
+use Rattle.listing_texts.specs.Form.{firstLine, statedFields, Digits}
 use Rattle.listing_texts.specs.Inv.{invSaid}
 use Rattle.listing_texts.specs.Rows.{coefficientIn, complementedIn}
 use Rattle.listing_texts.specs.Read.{shown, refused, alike, countsRight, linesJudged, firstJudged, grammar, fromSecond, allLines, listingReading}
 use Rattle.listing_texts.specs.Listings.{termListing, Passes}
 use Rattle.listing_texts.specs.inner.Judging.{secondAt}
-use Rattle.listing_texts.proofs.Families.{family-equal, family-self}
+use Rattle.listing_texts.proofs.Compared.{alike-sizes, alike-self}
 use Rattle.listing_texts.proofs.FormRead.{form-said, form-read}
 use Rattle.listing_texts.proofs.InvRead.{inv-said, inv-read}
 use Rattle.listing_texts.proofs.WrittenRows.{writtenRows, row-coefficient}
@@ -50,12 +52,11 @@ no-refusal e = let z : _≡_ {A = ℕ} 0 1 = cc in omega arith
 -- the lines of a listing: its first line, its second, those of its products, and `end`
 listing-lines : (z : Sizes) (v M i : ℕ) (w c : ℕ → ℕ)
     → termListing z v M i w c
-    ≡ line (formWord (z .family)) (map decimal (z .n ∷ z .m ∷ z .k ∷ M ∷ i ∷ products (z .n) c ∷ literals (z .n) c ∷ []))
+    ≡ line (formWord (z .family)) (formFields (z .class) (z .n) (z .m) (z .k) M i (products (z .n) c) (literals (z .n) c))
     ++ (line (bytes "inv") (outputBytes (z .m) v ∷ []) ++ (termLines (z .n) (z .m) w c (2 ^ z .n) ++ line (bytes "end") []))
 unfolding termListing listingWith formLine invLine
 listing-lines z v M i w c =
-    let numbers : List ℕ = z .n ∷ z .m ∷ z .k ∷ M ∷ i ∷ products (z .n) c ∷ literals (z .n) c ∷ [] in
-    let first : List ℕ = line (formWord (z .family)) (map decimal numbers) in
+    let first : List ℕ = line (formWord (z .family)) (formFields (z .class) (z .n) (z .m) (z .k) M i (products (z .n) c) (literals (z .n) c)) in
     let second : List ℕ = line (bytes "inv") (outputBytes (z .m) v ∷ []) in
     let terms : List ℕ = termLines (z .n) (z .m) w c (2 ^ z .n) in
     append-assoc (first ++ second) terms (line (bytes "end") []) ∙ append-assoc first second (terms ++ line (bytes "end") [])
@@ -64,7 +65,7 @@ listing-lines z v M i w c =
 
 -- what holds of a listing that is read as the first line f, the mask v and the rows t
 pub record ListingIs (z : Sizes) (s : List ℕ) (f : Form) (v : ℕ) (t : List ℕ) : Type 0 where
-  pub sized : Sized (z .n) (z .m) (z .k)
+  pub sized : Sized (z .n) (z .m) (mostMixed (z .class)) (z .k)
   pub sizes : f .sizes ≡ z
   pub digits : Digits f
   pub mask : v < 2 ^ z .m
@@ -72,24 +73,6 @@ pub record ListingIs (z : Sizes) (s : List ℕ) (f : Form) (v : ℕ) (t : List �
   pub products-counted : f .products ≡ products (z .n) (coefficientIn t)
   pub literals-counted : f .literals ≡ literals (z .n) (coefficientIn t)
   pub characters : s ≡ termListing z v (f .mixed) (f .fixed) (complementedIn t) (coefficientIn t)
-
-pub alike-sizes : (z y : Sizes) → alike z y ≡ true → Sized (z .n) (z .m) (z .k) × (y ≡ z)
-unfolding alike
-alike-sizes z y e =
-    let one = both-right (eqb (sizesRefusal (z .n) (z .m) (z .k)) 0) _ e in
-    let two = both-right (eqb (y .n) (z .n)) _ one in
-    let n : y .n ≡ z .n = eqb-true (y .n) (z .n) (both-left (eqb (y .n) (z .n)) _ one) in
-    let m : y .m ≡ z .m = eqb-true (y .m) (z .m) (both-left (eqb (y .m) (z .m)) _ two) in
-    let three = both-right (eqb (y .m) (z .m)) _ two in
-    let k : y .k ≡ z .k = eqb-true (y .k) (z .k) (both-left (eqb (y .k) (z .k)) _ three) in
-    let family : y .family ≡ z .family = family-equal (y .family) (z .family) (both-right (eqb (y .k) (z .k)) _ three) in
-    let legal : sizesRefusal (z .n) (z .m) (z .k) ≡ 0 = eqb-true _ 0 (both-left (eqb (sizesRefusal (z .n) (z .m) (z .k)) 0) _ e) in
-    let whole : _≡_ {A = Sizes} (record { n = y .n; m = y .m; k = y .k; family = y .family }) (record { n = z .n; m = z .m; k = z .k; family = z .family }) = rw (n, m, k, family) in
-    (sizes-none (z .n) (z .m) (z .k) legal, whole)
-
-pub alike-self : (z : Sizes) → Sized (z .n) (z .m) (z .k) → alike z z ≡ true
-unfolding alike
-alike-self z sized = rw (sizes-accepted (z .n) (z .m) (z .k) sized, eq-eqb (z .n) (z .n) refl, eq-eqb (z .m) (z .m) refl, eq-eqb (z .k) (z .k) refl, family-self (z .family))
 
 counts-right : (n : ℕ) (f : Form) (t : List ℕ) → countsRight n f t ≡ true
     → (f .products ≡ products n (coefficientIn t)) × (f .literals ≡ literals n (coefficientIn t))
@@ -119,7 +102,7 @@ record SecondIs (z : Sizes) (s : List ℕ) (g f : Form) (v : ℕ) (t : List ℕ)
   characters : s
       ≡ line (bytes "inv") (outputBytes (z .m) v ∷ []) ++ (termLines (z .n) (z .m) (complementedIn t) (coefficientIn t) (2 ^ z .n) ++ line (bytes "end") [])
 
-module _ (z : Sizes) (s : List ℕ) (g f : Form) (v : ℕ) (t : List ℕ) (sized : Sized (z .n) (z .m) (z .k)) where
+module _ (z : Sizes) (s : List ℕ) (g f : Form) (v : ℕ) (t : List ℕ) (sized : Sized (z .n) (z .m) (mostMixed (z .class)) (z .k)) where
   abbrev after : List ℕ
   after = drop (suc (length (parts 10 s .first))) s
 
@@ -161,8 +144,9 @@ module _ (z : Sizes) (s : List ℕ) (f : Form) (v : ℕ) (t : List ℕ) where
       let form = form-read first f (says ∙ ap States (second .form)) in
       let counts = counts-right (z .n) f t (second .counts) in
       let sizes : f .sizes ≡ z = ap (λ (x : Form). x .sizes) (sym (second .form)) ∙ legal .1 in
-      let numbers : List ℕ = z .n ∷ z .m ∷ z .k ∷ f .mixed ∷ f .fixed ∷ products (z .n) (coefficientIn t) ∷ literals (z .n) (coefficientIn t) ∷ [] in
-      let stated : formNumbers f ≡ numbers = cc in
+      let fields : List (List ℕ) =
+      formFields (z .class) (z .n) (z .m) (z .k) (f .mixed) (f .fixed) (products (z .n) (coefficientIn t)) (literals (z .n) (coefficientIn t)) in
+      let stated : statedFields f ≡ fields = rw (sizes, counts .0, counts .1) in
       let family : f .sizes .family ≡ z .family = ap (λ (y : Sizes). y .family) sizes in
       record {
         sized = legal .0;
@@ -173,9 +157,9 @@ module _ (z : Sizes) (s : List ℕ) (f : Form) (v : ℕ) (t : List ℕ) where
         products-counted = counts .0;
         literals-counted = counts .1;
         characters =
-            split-joined s h (formWord (f .sizes .family)) (map decimal (formNumbers f)) (form .0)
-            ∙ ap₂ (λ (y : Family) (xs : List ℕ). line (formWord y) (map decimal xs) ++ rest) family stated
-            ∙ ap (λ (r : List ℕ). line (formWord (z .family)) (map decimal numbers) ++ r) (second .characters)
+            split-joined s h (formWord (f .sizes .family)) (statedFields f) (form .0)
+            ∙ ap₂ (λ (y : Family) (xs : List (List ℕ)). line (formWord y) xs ++ rest) family stated
+            ∙ ap (λ (r : List ℕ). line (formWord (z .family)) fields ++ r) (second .characters)
             ∙ sym (listing-lines z v (f .mixed) (f .fixed) (complementedIn t) (coefficientIn t));
       }
   by-sizes h g says false same w = absurd (no-refusal w)
@@ -196,7 +180,7 @@ module _ (z : Sizes) (s : List ℕ) (f : Form) (v : ℕ) (t : List ℕ) where
 abbrev pub writtenForm : Sizes → (M i : ℕ) → (ℕ → ℕ) → Form
 writtenForm z M i c = record { sizes = z; mixed = M; fixed = i; products = products (z .n) c; literals = literals (z .n) c }
 
-module _ (z : Sizes) (v M i : ℕ) (w c : ℕ → ℕ) (sized : Sized (z .n) (z .m) (z .k)) (hv : v < 2 ^ z .m) (hM : M < 10000) (hi : i < 10000)
+module _ (z : Sizes) (v M i : ℕ) (w c : ℕ → ℕ) (sized : Sized (z .n) (z .m) (mostMixed (z .class)) (z .k)) (hv : v < 2 ^ z .m) (hM : M < 10000) (hi : i < 10000)
     (small : (t : ℕ) → t < 2 ^ z .n → c t < 2 ^ z .m) where
   bytes-small : (t : ℕ) → t < 2 ^ z .n → c t < 256
   bytes-small t h = omega (arith, small t h, points-le (z .m) (sized .outputs .1))
@@ -206,7 +190,7 @@ module _ (z : Sizes) (v M i : ℕ) (w c : ℕ → ℕ) (sized : Sized (z .n) (z 
       record {
         n = omega (arith, sized .inputs .1);
         m = omega (arith, sized .outputs .1);
-        k = omega (arith, sized .mixed .0);
+        k = omega (arith, sized .mixed .0, most-three (z .class));
         mixed = hM;
         fixed = hi;
         products = omega (arith, products-le (z .n) c, points-le (z .n) (sized .inputs .1));
@@ -227,12 +211,13 @@ module _ (z : Sizes) (v M i : ℕ) (w c : ℕ → ℕ) (sized : Sized (z .n) (z 
   pub listing-written : listingReading z (termListing z v M i w c) ≡ shown (writtenForm z M i c) v (writtenRows (z .n) w c)
   unfolding listingReading allLines fromSecond linesJudged writtenRows
   listing-written =
-      let numbers : List ℕ = formNumbers (writtenForm z M i c) in
+      let fields : List (List ℕ) = statedFields (writtenForm z M i c) in
       let rest : List ℕ = termLines (z .n) (z .m) w c (2 ^ z .n) ++ line (bytes "end") [] in
       let mask : List (List ℕ) = outputBytes (z .m) v ∷ [] in
       ap (listingReading z) (listing-lines z v M i w c)
       ∙ rw (
-        parts-lines (formWord (z .family)) (map decimal numbers) (line (bytes "inv") mask ++ rest) (plain-form (z .family)) (plain-numbers numbers),
+        parts-lines (formWord (z .family)) fields (line (bytes "inv") mask ++ rest) (plain-form (z .family))
+            (plain-fields (z .class) (z .n) (z .m) (z .k) M i (products (z .n) c) (literals (z .n) c)),
         form-said (writtenForm z M i c) form-digits,
         alike-self z sized,
         parts-lines (bytes "inv") mask rest plain-inv (plain-outputs (z .m) v, tt),
@@ -259,7 +244,7 @@ read-passes z s f v t e =
       characters = r .characters;
     }
 
-pub passes-exactly : (z : Sizes) (s : List ℕ) → Sized (z .n) (z .m) (z .k)
+pub passes-exactly : (z : Sizes) (s : List ℕ) → Sized (z .n) (z .m) (mostMixed (z .class)) (z .k)
     → Passes z s ↔ ((f : Form) × (v : ℕ) × (t : List ℕ) × (listingReading z s ≡ shown f v t))
 passes-exactly z s sized = (
   (λ p. (

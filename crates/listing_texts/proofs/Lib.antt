@@ -1,4 +1,4 @@
-pub mod Families
+pub mod Compared
 pub mod FormRead
 pub mod InvRead
 pub mod Opened

@@ -1,27 +1,28 @@
 -- A listing whose first line passes and whose second line is not `inv` and m characters is 11, line 2, whatever its later lines are (`second-refused`).
 use mathlib.Core.Bool.{true}
-use mathlib.Core.List.{List, [], _∷_, _++_, map}
+use mathlib.Core.List.{List, [], _∷_}
 use mathlib.Core.Path.{_≡_, refl, ap, _∙_}
-use Prim.Native.Nat.{ℕ, _^_, _<_}
+use Prim.Native.Nat.{ℕ, _<_}
 use native.Mathlib.Decide.{decLt}
 use native.Mathlib.Omega.{arith}
 use lib.ListN.{length}
 use Rattle.numbers.specs.Refusals.{Sized}
 use Rattle.expansions.specs.declared.families.Family.{Family}
+use Rattle.expansions.specs.Classes.{mostMixed}
 use Rattle.listings.specs.Parts.{parts, bytes}
-use Rattle.listings.specs.Listing.{decimal, outputBytes, formWord, invLine}
+use Rattle.listings.specs.Listing.{outputBytes, formWord, invLine}
 use Rattle.listings.proofs.Joined.{parts-lines}
-use Rattle.listings.proofs.Meaning.{plain-form, plain-numbers}
+use Rattle.listings.proofs.Meaning.{plain-form}
 use Rattle.fields.specs.declared.values.Number.{Number}
 use Rattle.fields.specs.declared.values.Number.the-variants.{Is, Wrong}
 use Rattle.table_texts.specs.declared.sizes.Sizes.{Sizes}
 use Rattle.listing_texts.specs.declared.form.Form.{Form}
-use Rattle.listing_texts.specs.Form.{formNumbers, FormListing}
+use Rattle.listing_texts.specs.Form.{statedFields, FormListing}
 use Rattle.listing_texts.specs.Inv.{invSaid, NoInv}
 use Rattle.listing_texts.specs.Read.{refused, alike, allLines, listingReading}
 use Rattle.listing_texts.specs.inner.Judging.{secondAt}
-use Rattle.listing_texts.proofs.Exactness.{alike-self}
-use Rattle.listing_texts.proofs.FormRead.{form-said}
+use Rattle.listing_texts.proofs.Compared.{alike-self}
+use Rattle.listing_texts.proofs.FormRead.{plain-stated, form-said}
 use Rattle.listing_texts.proofs.InvRead.{inv-read}
 use Rattle.listing_texts.proofs.Opened.{second-split, split-joined, second-unfinished}
 
@@ -39,16 +40,15 @@ no-inv z f s none = go (decLt (length (parts 10 s .first)) (length s)) where
   go (no h) = second-unfinished s (omega arith) z f
 
 -- "A broken listing line .. is 11 with its line in the listing": the second line, which is broken or is not there
-pub second-refused : (z : Sizes) (s : List ℕ) → Sized (z .n) (z .m) (z .k) → (g : FormListing s) → g .form .sizes ≡ z → NoInv (z .m) (g .rest)
+pub second-refused : (z : Sizes) (s : List ℕ) → Sized (z .n) (z .m) (mostMixed (z .class)) (z .k) → (g : FormListing s) → g .form .sizes ≡ z → NoInv (z .m) (g .rest)
     → listingReading z s ≡ refused 11 2
 unfolding listingReading allLines
 second-refused z s sized g same none =
     let family : Family = g .form .sizes .family in
-    let numbers : List ℕ = formNumbers (g .form) in
     let passes : alike z (g .form .sizes) ≡ true = ap (alike z) same ∙ alike-self z sized in
     ap (listingReading z) (g .characters)
     ∙ rw (
-      parts-lines (formWord family) (map decimal numbers) (g .rest) (plain-form family) (plain-numbers numbers),
+      parts-lines (formWord family) (statedFields (g .form)) (g .rest) (plain-form family) (plain-stated (g .form)),
       form-said (g .form) (g .digits),
       passes,
     )

@@ -13,12 +13,12 @@ use Rattle.listing_texts.specs.declared.read.ListingAnswer.the-variants.
 use Rattle.listing_texts.specs.Rows.{coefficientIn, complementedIn, shownBlocks}
 use Rattle.listing_texts.specs.Read.{ListingReading, shown, refused}
 
--- the record of a first line, an inversion mask and the rows
-unfoldable pub shownExpansion : ℕ → Form → ℕ → List ℕ → Expansion
-shownExpansion n f v rows =
+-- the record of a first line, an inversion mask and the rows, beside a table with the sizes z
+unfoldable pub shownExpansion : Sizes → Form → ℕ → List ℕ → Expansion
+shownExpansion z f v rows =
     record {
       coefficients = tabulate 256 (coefficientIn rows);
-      blocks = shownBlocks n (f .mixed) (complementedIn rows);
+      blocks = shownBlocks (z .class) (z .n) (z .k) (f .mixed) (complementedIn rows);
       mixed = f .mixed;
       fixed = f .fixed;
       products = f .products;
@@ -27,10 +27,10 @@ shownExpansion n f v rows =
     }
 
 -- what is handed up for a listing that passes: the record, with the inputs that each cube shows complemented
-unfoldable pub shownRead : ℕ → Form → ℕ → List ℕ → ListingRead
-shownRead n f v rows = record { answer = Given; expansion = shownExpansion n f v rows; complements = tabulate 256 (complementedIn rows) }
+unfoldable pub shownRead : Sizes → Form → ℕ → List ℕ → ListingRead
+shownRead z f v rows = record { answer = Given; expansion = shownExpansion z f v rows; complements = tabulate 256 (complementedIn rows) }
 
 -- what the reading hands up; under a refusal the empty record
 unfoldable pub handedUp : Sizes → ListingReading → ListingRead
-handedUp z (shown f v rows) = shownRead (z .n) f v rows
+handedUp z (shown f v rows) = shownRead z f v rows
 handedUp z (refused number line) = record { answer = Refused number line; expansion = emptyExpansion (z .k); complements = replicate 256 0 }

@@ -1,16 +1,18 @@
-// The first line of a listing: `form` or `form2`, n, m, k, M, i, products, literals. Whether its family and its numbers fit the table and the
-// lines is judged later, since a line that breaks the grammar is refused first.
+// The first line of a listing: `form` or `form2`, n, m, k, M, i, products, literals, where k is a digit or, of the free class, `f` and a digit. Whether
+// its family, its class and its numbers fit the table and the lines is judged later, since a line that breaks the grammar is refused first.
 use expansions::families::Family;
+use fields::values::MixedRead;
 use fields::values::Number;
+use fields::values::mixed_of;
 use fields::values::read_number;
 use fields::words::FamilyRead;
 use fields::words::family_of;
 use fields::words::field;
 use table_texts::sizes::Sizes;
 ghost use mathlib.Core.Path.{_≡_};
-ghost use Rattle.listing_texts.specs.Form.{formOf, firstLine};
+ghost use Rattle.listing_texts.specs.Form.{sizesOf, formOf, firstLine};
 
-// What a first line states: the sizes with the family, the mixed set M and the fixed polarity i as masks, and the counts.
+// What a first line states: the sizes with the class and the family, the mixed set M and the fixed polarity i as masks, and the counts.
 pub struct Form {
     pub sizes: Sizes,
     pub mixed: usize,
@@ -25,26 +27,45 @@ pub enum FirstLine {
     Wrong,
 }
 
-// The numbers of a first line, where each is read, with the family.
+// The sizes that the fields of a first line say.
+enum SizesRead {
+    Are(Sizes),
+    Wrong,
+}
+
+// The sizes of a first line, where each field says its own, with the family.
+fn sizes_of(family: Family, n: Number, m: Number, mixed: MixedRead) -> SizesRead
+    ensures { λ r. ⌜ r ≡ sizesOf family n m mixed ⌝ }
+{
+    let Number::Is(n) = n else {
+        return SizesRead::Wrong;
+    };
+    let Number::Is(m) = m else {
+        return SizesRead::Wrong;
+    };
+    let MixedRead::Is { class, k } = mixed else {
+        return SizesRead::Wrong;
+    };
+    SizesRead::Are(Sizes {
+        n,
+        m,
+        class,
+        k,
+        family,
+    })
+}
+
+// The sizes and the other numbers of a first line, where each is read.
 fn form_of(
-    family: Family,
-    n: Number,
-    m: Number,
-    k: Number,
+    sizes: SizesRead,
     mixed: Number,
     fixed: Number,
     products: Number,
     literals: Number,
 ) -> FirstLine
-    ensures { λ r. ⌜ r ≡ formOf family n m k mixed fixed products literals ⌝ }
+    ensures { λ r. ⌜ r ≡ formOf sizes mixed fixed products literals ⌝ }
 {
-    let Number::Is(n) = n else {
-        return FirstLine::Wrong;
-    };
-    let Number::Is(m) = m else {
-        return FirstLine::Wrong;
-    };
-    let Number::Is(k) = k else {
+    let SizesRead::Are(sizes) = sizes else {
         return FirstLine::Wrong;
     };
     let Number::Is(mixed) = mixed else {
@@ -59,7 +80,6 @@ fn form_of(
     let Number::Is(literals) = literals else {
         return FirstLine::Wrong;
     };
-    let sizes = Sizes { n, m, k, family };
     FirstLine::States(Form {
         sizes,
         mixed,
@@ -69,18 +89,21 @@ fn form_of(
     })
 }
 
-// The first line: its word is that of a family, its numbers have one to four digits, and k has one.
+// The first line: its word is that of a family, its numbers have one to four digits, and k has one, after an `f` in the free class.
 pub fn first_line(line: &[u8]) -> FirstLine
     ensures { λ r. ⌜ r ≡ firstLine (now (line .entry)) ⌝ }
 {
     let FamilyRead::Is(family) = family_of(8, b"form", b"form2", line) else {
         return FirstLine::Wrong;
     };
-    form_of(
+    let sizes = sizes_of(
         family,
         read_number(4, field(line, 1)),
         read_number(4, field(line, 2)),
-        read_number(1, field(line, 3)),
+        mixed_of(field(line, 3)),
+    );
+    form_of(
+        sizes,
         read_number(4, field(line, 4)),
         read_number(4, field(line, 5)),
         read_number(4, field(line, 6)),

@@ -8,6 +8,8 @@ use crate::shown::bytes_of;
 use crate::shown::count_rows;
 use crate::shown::shown_blocks;
 use expansions::families::Family;
+use expansions::kinds::Class;
+use expansions::kinds::most_mixed;
 use fields::cursor::Cursor;
 use fields::values::Number;
 use lines::judge::PLACES;
@@ -24,7 +26,7 @@ ghost use lib.ListN.{replicate};
 ghost use Rattle.numbers.specs.Bytes.{at};
 ghost use Rattle.lines.specs.Rows as rowsRead;
 ghost use Rattle.lines.specs.inner.Steps.{rowsAt, Within};
-ghost use Rattle.listing_texts.specs.Read.{sameFamily, alike, linesJudged, grammar, listingReading};
+ghost use Rattle.listing_texts.specs.Read.{sameFamily, sameClass, alike, linesJudged, grammar, listingReading};
 ghost use Rattle.listing_texts.specs.Record.{shownRead, handedUp};
 ghost use Rattle.listing_texts.specs.inner.Judging.{standsFor, secondAt};
 
@@ -63,11 +65,29 @@ fn same_family(a: Family, b: Family) -> bool
     }
 }
 
-// Whether the sizes of a table are none that document 01 refuses, and those of the listing are the same, and so is the family.
+// Whether two classes are the same.
+fn same_class(a: Class, b: Class) -> bool
+    ensures { λ r. ⌜ r ≡ sameClass a b ⌝ }
+{
+    match a {
+        Class::Block => match b {
+            Class::Block => true,
+            Class::Free => false,
+        },
+        Class::Free => match b {
+            Class::Block => false,
+            Class::Free => true,
+        },
+    }
+}
+
+// Whether the sizes of a table are none that the documents refuse, and those of the listing are the same, and so are the class and the family.
 fn alike(table: Sizes, listing: Sizes) -> bool
     ensures { λ r. ⌜ r ≡ alike table listing ⌝ }
 {
-    if judge_sizes(table.n, table.m, table.k) != 0 {
+    let table_class = table.class;
+    let listing_class = listing.class;
+    if judge_sizes(table.n, table.m, most_mixed(table_class), table.k) != 0 {
         return false;
     }
     if listing.n != table.n {
@@ -78,6 +98,9 @@ fn alike(table: Sizes, listing: Sizes) -> bool
     }
     if listing.k != table.k {
         return false;
+    }
+    if !same_class(listing_class, table_class) {
+        return false; // `f1` beside `1`, though their answers cost the same
     }
     let table_family = table.family;
     let listing_family = listing.family;
@@ -186,19 +209,21 @@ fn judge_listing(sizes: Sizes, listing: &[u8], rows: &mut [u16; PLACES]) -> Judg
 }
 
 // The record of a listing that passed.
-fn shown_listing(n: usize, form: Form, inverted: usize, rows: &[u16; PLACES]) -> ListingRead
-    requires { ⌜ (n ≤ 8) × (inverted < 256) × ((t : ℕ) → at (now rows) t < 65536) ⌝ }
-    ensures { λ r. ⌜ r ≡ shownRead n form inverted (now (rows .entry)) ⌝ }
+fn shown_listing(sizes: Sizes, form: Form, inverted: usize, rows: &[u16; PLACES]) -> ListingRead
+    requires { ⌜ (sizes .n ≤ 8) × (sizes .k ≤ 3) × (inverted < 256) × ((t : ℕ) → at (now rows) t < 65536) ⌝ }
+    ensures { λ r. ⌜ r ≡ shownRead sizes form inverted (now (rows .entry)) ⌝ }
 {
+    let class = sizes.class;
+    let mask = inverted as u8;
     let complements = bytes_of(rows, 8);
     let expansion = Expansion {
         coefficients: bytes_of(rows, 0),
-        blocks: shown_blocks(n, form.mixed, &complements),
+        blocks: shown_blocks(class, sizes.n, sizes.k, form.mixed, &complements),
         mixed: form.mixed,
         fixed: form.fixed,
         products: form.products,
         literals: form.literals,
-        inverted: inverted as u8,
+        inverted: mask,
     };
     ListingRead {
         answer: ListingAnswer::Given,
@@ -208,14 +233,14 @@ fn shown_listing(n: usize, form: Form, inverted: usize, rows: &[u16; PLACES]) ->
 }
 
 // Reads a listing beside a table with these sizes. It hands up the record that the lines show, mask and all, a polarity that no cube shows being
-// plain, and the inputs that each cube shows complemented. It refuses a bad line by 11, with the line, and a family, sizes or counts that are
-// not the table's or the lines' by 12, with line 1; then the record is the empty one.
+// plain, and the inputs that each cube shows complemented. It refuses a bad line by 11, with the line, and a family, a class, sizes or counts that
+// are not the table's or the lines' by 12, with line 1; then the record is the empty one.
 pub fn read_listing(sizes: Sizes, listing: &[u8]) -> ListingRead
     ensures { λ r. ⌜ r ≡ handedUp sizes (listingReading sizes (now (listing .entry))) ⌝ }
 {
     let mut rows = [0u16; PLACES];
     match judge_listing(sizes, listing, &mut rows) {
-        Judged::Passed(form, inverted) => shown_listing(sizes.n, form, inverted, &rows),
+        Judged::Passed(form, inverted) => shown_listing(sizes, form, inverted, &rows),
         Judged::Refused { number, line } => ListingRead {
             answer: ListingAnswer::Refused { number, line },
             expansion: Expansion::empty(sizes.k),

@@ -1,49 +1,30 @@
-// Writing the listing of an expansion of document 01's class: `form` or `form2`, `inv`, a line for each product, `end`.
+// Writing the listing of an expansion of a class with mixed inputs: `form` or `form2`, `inv`, a line for each product, `end`.
+use crate::first::mark_length;
+use crate::first::word_length;
+use crate::first::write_form;
 use crate::listed::Listed;
 use crate::terms::TERM;
 use crate::terms::begin_term;
 use crate::terms::end_term;
 use crate::terms::write_end;
 use expansions::families::Family;
+use expansions::kinds::Class;
 use search::expansion::Expansion;
 use search::polarity::term_polarity;
 use writing::line::digits_of;
-use writing::line::write_line;
 use writing::writer::Writer;
-ghost use mathlib.Core.Path.{_≡_};
-ghost use Prim.Native.Nat.{_+_, _*_, _^_, _≤_, _<_};
+ghost use Prim.Native.Nat.{_+_, _^_, _≤_, _<_};
 ghost use lib.ListN.{length};
 ghost use Rattle.numbers.specs.Bytes.{at};
 ghost use Rattle.numbers.specs.Nonzero.{ifNonzero};
-ghost use Rattle.listings.specs.Listing.{formWord, formLine, invLine, termLine, productLines, listing};
+ghost use Rattle.listings.specs.Listing.{invLine, termLine, productLines, listing};
 ghost use Rattle.listings.specs.inner.Listable.{Listable};
 ghost use Rattle.writing.specs.Put.{Put};
 ghost use Rattle.listing_writing.specs.Write.{WriteListing};
 
-// The bytes of the first two lines and the last one besides the first word, the digits and the outputs: the words `inv` and `end`, eight tabs and
-// three line ends.
+// The bytes of the first two lines and the last one besides the first word, the `f` of the field k, the digits and the outputs: the words `inv` and
+// `end`, eight tabs and three line ends.
 const FRAME: usize = 17;
-
-// The bytes of the first word.
-fn word_length(family: Family) -> usize
-    ensures { λ r. ⌜ r ≡ length (formWord family) ⌝ }
-{
-    match family {
-        Family::One => 4,
-        Family::Two => 5,
-    }
-}
-
-// The first line: the word of the family, and the numbers.
-fn write_form(family: Family, start: Writer, out: &mut [u8], numbers: &[usize]) -> Writer
-    requires { ⌜ (length (now numbers) ≤ 7) × (start .at + length (formLine family (now numbers)) ≤ length (now out)) ⌝ }
-    ensures { λ r. ⌜ Put (now (out .entry)) (start .at) (formLine family (now (numbers .entry))) (now (out .exit)) (r .at) ⌝ }
-{
-    match family {
-        Family::One => write_line(start, out, b"form", numbers),
-        Family::Two => write_line(start, out, b"form2", numbers),
-    }
-}
 
 // The second line: `inv`, and the outputs that are inverted.
 fn write_inv(start: Writer, out: &mut [u8], m: usize, inverted: u8) -> Writer
@@ -76,34 +57,37 @@ fn write_term(
 
 // The lines of the products, ascending by term.
 fn write_terms(
+    class: Class,
     start: Writer,
     out: &mut [u8],
     n: usize,
     m: usize,
+    k: usize,
     mixed: usize,
     fixed: usize,
     coefficients: &[u8; Expansion::PLACES],
     blocks: &[u8; Expansion::PLACES],
 ) -> Writer
     requires { ⌜ (n ≤ 8) × (m ≤ 8) × (mixed < 2 ^ n) × (fixed < 2 ^ n) ⌝ }
-    requires { ⌜ start .at + length (productLines n m mixed fixed (at (now blocks)) (at (now coefficients))) ≤ length (now out) ⌝ }
-    ensures { λ r. ⌜ Put (now (out .entry)) (start .at) (productLines n m mixed fixed (at (now (blocks .entry))) (at (now (coefficients .entry)))) (now (out .exit)) (r .at) ⌝ }
+    requires { ⌜ start .at + length (productLines class n m k mixed fixed (at (now blocks)) (at (now coefficients))) ≤ length (now out) ⌝ }
+    ensures { λ r. ⌜ Put (now (out .entry)) (start .at) (productLines class n m k mixed fixed (at (now (blocks .entry))) (at (now (coefficients .entry)))) (now (out .exit)) (r .at) ⌝ }
 {
     let size: usize = 1 << n;
     let mut place = start;
     let mut t: usize = 0;
     while t < size {
-        let w = term_polarity(n, mixed, fixed, blocks, t);
+        let w = term_polarity(class, n, k, mixed, fixed, blocks, t);
         place = write_term(place, out, n, m, t, w, coefficients[t]);
         t += 1;
     }
     place
 }
 
-// Writes the listing of an expansion of n inputs, m outputs and k mixed inputs, for a part of the family, into the front of `out`, and gives its
-// length. The record states the products that its coefficients have. Where `out` is shorter than the listing it says so, and changes no byte; bytes
+// Writes the listing of an expansion of a class, of n inputs, m outputs and k mixed inputs, for a part of the family, into the front of `out`, and gives
+// its length. The record states the products that its coefficients have. Where `out` is shorter than the listing it says so, and changes no byte; bytes
 // past the listing keep what they held.
 pub fn write_listing(
+    class: Class,
     family: Family,
     n: usize,
     m: usize,
@@ -112,19 +96,32 @@ pub fn write_listing(
     out: &mut [u8],
 ) -> Listed
     requires { ⌜ Listable n m e ⌝ }
-    ensures { λ r. ⌜ WriteListing (listing family n m k e) (now (out .entry)) r (now (out .exit)) ⌝ }
+    ensures { λ r. ⌜ WriteListing (listing class family n m k e) (now (out .entry)) r (now (out .exit)) ⌝ }
 {
-    let numbers = [n, m, k, e.mixed, e.fixed, e.products, e.literals];
-    let frame = FRAME + word_length(family) + m;
-    let length = frame + digits_of(&numbers) + e.products * (n + m + TERM);
+    let counts = [e.mixed, e.fixed, e.products, e.literals];
+    let digits = digits_of(&[n, m, k]) + digits_of(&counts);
+    let frame = FRAME + word_length(family) + mark_length(class) + m;
+    let length = frame + digits + e.products * (n + m + TERM);
     if out.len() < length {
         return Listed::Short;
     }
     let coefficients = e.coefficients;
     let blocks = e.blocks;
-    let second = write_form(family, Writer { at: 0 }, out, &numbers);
+    let start = Writer { at: 0 };
+    let second = write_form(class, family, start, out, &[n, m], k, &counts);
     let terms = write_inv(second, out, m, e.inverted);
-    let end = write_terms(terms, out, n, m, e.mixed, e.fixed, &coefficients, &blocks);
+    let end = write_terms(
+        class,
+        terms,
+        out,
+        n,
+        m,
+        k,
+        e.mixed,
+        e.fixed,
+        &coefficients,
+        &blocks,
+    );
     let stop = write_end(end, out);
     Listed::Length(stop.at)
 }

@@ -1,5 +1,5 @@
--- How long the parts of a listing are. The length of a listing follows from its first word, the digits of its numbers, the outputs and the number of
--- its products (`length-listing`).
+-- How long the parts of a listing are. The length of a listing follows from its first word, its fields, the outputs and the number of its products
+-- (`length-listing`).
 use lib.Pow.{pow-mono}
 use Rattle.expansions.proofs.Costs.{products-le}
 use mathlib.Core.List.{List, [], _∷_, _++_, map, map-append, append-assoc, append-nil}
@@ -15,20 +15,22 @@ use Rattle.numbers.specs.Bytes.{at}
 use Rattle.numbers.specs.Nonzero.{ifNonzero, overNonzero}
 use Rattle.numbers.specs.Sums.{foldBelow, sumBelow}
 use Rattle.expansions.specs.Costs.{counted, products}
+use Rattle.expansions.specs.declared.kinds.Class.{Class}
 use Rattle.expansions.specs.declared.families.Family.{Family}
 use Rattle.expansions.specs.declared.families.Family.the-variants.{One, Two}
 use Rattle.expansions.specs.Members.{polarity}
 use Rattle.search.specs.declared.expansion.Expansion.{Expansion}
 use Rattle.listings.specs.Parts.{bytes}
-use Rattle.listings.specs.Listing.{tabbed, line, digitCount, decimal, cube, outputBytes, numbersOf, formWord, formLine, invLine, cubeLine, cubeLines, listingAfter, listingWith, listing}
+use Rattle.listings.specs.Listing.{tabbed, line, digitCount, decimal, cube, outputBytes, mixedMark, mixedField, formFields, fieldsOf}
+use Rattle.listings.specs.Listing.{formWord, formLine, invLine, cubeLine, cubeLines, listingAfter, listingWith, listing}
 use Rattle.listings.specs.inner.Listable.{Listable}
 use Rattle.listings.specs.inner.Lengths.{digitsOf}
 use Rattle.listings.proofs.Characters.{length-decimal, digitCount-in, length-cube, length-outputs}
 
--- its length, from its first word, the digits of its numbers, the outputs and the number of its products (`length-listing`)
-unfoldable pub listingLength : Family → ℕ → ℕ → ℕ → Expansion → ℕ
-listingLength family n m k e =
-    8 + length (formWord family) + digitsOf (numbersOf n m k e) + (5 + m)
+-- its length, from its first word, its fields, the outputs and the number of its products (`length-listing`)
+unfoldable pub listingLength : Class → Family → (n m k : ℕ) → Expansion → ℕ
+listingLength C family n m k e =
+    1 + length (formWord family) + length (tabbed (fieldsOf C n m k e)) + (5 + m)
     + products n (at (e .coefficients)) * (5 + n + 1 + m + 1) + 4
 
 -- ---- numbers, each after a tab
@@ -118,15 +120,17 @@ unfolding formWord bytes
 length-formWord One = omega arith
 length-formWord Two = omega arith
 
-pub length-formLine : (family : Family) (xs : List ℕ) → length (formLine family xs) ≡ 1 + length xs + length (formWord family) + digitsOf xs
+pub length-formLine : (family : Family) (fs : List (List ℕ)) → length (formLine family fs) ≡ 1 + length (formWord family) + length (tabbed fs)
 unfolding formLine line
-length-formLine family xs =
-    omega (
-      arith,
-      length-append (formWord family ++ tabbed (map decimal xs)) (10 ∷ []),
-      length-append (formWord family) (tabbed (map decimal xs)),
-      length-numbers xs,
-    )
+length-formLine family fs =
+    omega (arith, length-append (formWord family ++ tabbed fs) (10 ∷ []), length-append (formWord family) (tabbed fs))
+
+-- the fields of a first line: seven tabs, the digits of seven numbers, and what stands before the digit of k
+pub length-formFields : (C : Class) (n m k M i p l : ℕ)
+    → length (tabbed (formFields C n m k M i p l)) ≡ 7 + digitsOf (n ∷ m ∷ k ∷ M ∷ i ∷ p ∷ l ∷ []) + length (mixedMark C)
+unfolding tabbed digitsOf mixedField
+length-formFields C n m k M i p l =
+    simp (length-append, length-decimal) (omega arith)
 
 -- the line `inv`: its word, and what stands after it
 pub invLine-parts : (m v : ℕ) → invLine m v ≡ bytes "inv" ++ (9 ∷ outputBytes m v ++ 10 ∷ [])
@@ -138,9 +142,9 @@ unfolding invLine line tabbed bytes
 length-invLine m v = simp (length-append, length-outputs) (omega arith)
 
 -- the first two lines together
-length-form-inv : (family : Family) (xs : List ℕ) (m v : ℕ)
-    → length (formLine family xs ++ invLine m v) ≡ 1 + length xs + length (formWord family) + digitsOf xs + (5 + m)
-length-form-inv family xs m v = length-append (formLine family xs) (invLine m v) ∙ rw (length-formLine family xs, length-invLine m v)
+length-form-inv : (family : Family) (fs : List (List ℕ)) (m v : ℕ)
+    → length (formLine family fs ++ invLine m v) ≡ 1 + length (formWord family) + length (tabbed fs) + (5 + m)
+length-form-inv family fs m v = length-append (formLine family fs) (invLine m v) ∙ rw (length-formLine family fs, length-invLine m v)
 
 -- ---- the listing
 
@@ -155,17 +159,17 @@ length-listingAfter first n m x c h =
     length-three first (cubeLines m x c (2 ^ n)) (line (bytes "end") [])
     ∙ rw (length-cubeLines n m x c h (2 ^ n))
 
-pub length-listingWith : (family : Family) (numbers : List ℕ) (v n m : ℕ) (w c : ℕ → ℕ)
-    → length (listingWith family numbers v n m w c)
-    ≡ 1 + length numbers + length (formWord family) + digitsOf numbers + (5 + m) + products n c * (5 + n + 1 + m + 1) + 4
+pub length-listingWith : (family : Family) (fs : List (List ℕ)) (v n m : ℕ) (w c : ℕ → ℕ)
+    → length (listingWith family fs v n m w c)
+    ≡ 1 + length (formWord family) + length (tabbed fs) + (5 + m) + products n c * (5 + n + 1 + m + 1) + 4
 unfolding listingWith
-length-listingWith family numbers v n m w c =
-    length-listingAfter (formLine family numbers ++ invLine m v) n m (λ t. cube n t (w t)) c (λ t. length-cube n t (w t)) ∙ rw (length-form-inv family numbers m v)
+length-listingWith family fs v n m w c =
+    length-listingAfter (formLine family fs ++ invLine m v) n m (λ t. cube n t (w t)) c (λ t. length-cube n t (w t)) ∙ rw (length-form-inv family fs m v)
 
-pub length-listing : (family : Family) (n m k : ℕ) (e : Expansion) → length (listing family n m k e) ≡ listingLength family n m k e
+pub length-listing : (C : Class) (family : Family) (n m k : ℕ) (e : Expansion) → length (listing C family n m k e) ≡ listingLength C family n m k e
 unfolding listing listingLength
-length-listing family n m k e =
-    length-listingWith family (numbersOf n m k e) (e .inverted) n m (polarity n (e .mixed) (e .fixed) (at (e .blocks))) (at (e .coefficients))
+length-listing C family n m k e =
+    length-listingWith family (fieldsOf C n m k e) (e .inverted) n m (polarity C n k (e .mixed) (e .fixed) (at (e .blocks))) (at (e .coefficients))
 
 -- ---- from the products that a record states
 
@@ -188,14 +192,18 @@ module _ (n m p : ℕ) (c : ℕ → ℕ) (counted : p ≡ products n c) where
       let most : p ≤ 256 = omega (arith, counted, products-le n c, pow-mono {i = n} {j = 8} hn) in
       mul-le-mul {n₁ = p} {m₁ = n + m + 7} {n₂ = 256} {m₂ = 23} most (omega arith)
 
--- the length of a record's listing, from its first word, the digits of its numbers, the outputs and the products that it states
-pub listing-stated : (family : Family) (n m k : ℕ) (e : Expansion) → Listable n m e
-    → 17 + length (formWord family) + m + digitsOf (numbersOf n m k e) + e .products * (n + m + 7) ≡ length (listing family n m k e)
+-- the length of a record's listing, from its first word, the digits of its numbers, what stands before the digit of k, the outputs and the products that
+-- it states
+pub listing-stated : (C : Class) (family : Family) (n m k : ℕ) (e : Expansion) → Listable n m e
+    → 17 + length (formWord family) + length (mixedMark C) + m + digitsOf (n ∷ m ∷ k ∷ e .mixed ∷ e .fixed ∷ e .products ∷ e .literals ∷ [])
+    + e .products * (n + m + 7)
+    ≡ length (listing C family n m k e)
 unfolding listing listingWith
-listing-stated family n m k e f =
+listing-stated C family n m k e f =
     omega (
       arith,
-      length-stated n m (e .products) (at (e .coefficients)) (f .counted) (formLine family (numbersOf n m k e) ++ invLine m (e .inverted))
-          (λ t. cube n t (polarity n (e .mixed) (e .fixed) (at (e .blocks)) t)) (λ t. length-cube n t _),
-      length-form-inv family (numbersOf n m k e) m (e .inverted),
+      length-stated n m (e .products) (at (e .coefficients)) (f .counted) (formLine family (fieldsOf C n m k e) ++ invLine m (e .inverted))
+          (λ t. cube n t (polarity C n k (e .mixed) (e .fixed) (at (e .blocks)) t)) (λ t. length-cube n t _),
+      length-form-inv family (fieldsOf C n m k e) m (e .inverted),
+      length-formFields C n m k (e .mixed) (e .fixed) (e .products) (e .literals),
     )

@@ -1,5 +1,6 @@
 -- The listing of an expansion, byte by byte. Document 01, "Text in, listing out": "A listing .. is: `form` ..; one line for each product ..; `end`."
--- Document 02, W-203: the listing of a `table2` text begins `form2`; W-205: "a `form` or `form2` listing gains a second line, `inv` and m characters".
+-- Document 02, W-203: the listing of a `table2` text begins `form2`; W-205: "a `form` or `form2` listing gains a second line, `inv` and m characters";
+-- W-207: of an `f` field, "the listing repeats that field".
 use mathlib.Core.Bool.{cond}
 use mathlib.Core.List.{List, [], _∷_, _++_, map}
 use Prim.Native.Nat.{ℕ, zero, suc, _+_, _/_, _%_, _^_}
@@ -7,6 +8,8 @@ use lib.Dec.{ltb}
 use Rattle.numbers.specs.Bytes.{at, tabulate}
 use Rattle.numbers.specs.Bits.{bit}
 use Rattle.numbers.specs.Nonzero.{overNonzero}
+use Rattle.expansions.specs.declared.kinds.Class.{Class}
+use Rattle.expansions.specs.declared.kinds.Class.the-variants.{Block, Free}
 use Rattle.expansions.specs.declared.families.Family.{Family}
 use Rattle.expansions.specs.declared.families.Family.the-variants.{One, Two}
 use Rattle.expansions.specs.Members.{polarity}
@@ -58,9 +61,22 @@ outputBytes m c = tabulate m (λ o. 48 + bit o c)
 
 -- ---- the listing
 
--- the numbers of the first line: "n, m, k (a digit), M, i, products, literals"
-abbrev pub numbersOf : ℕ → ℕ → ℕ → Expansion → List ℕ
-numbersOf n m k e = n ∷ m ∷ k ∷ e .mixed ∷ e .fixed ∷ e .products ∷ e .literals ∷ []
+-- what stands before the digit in the field k: nothing, or document 02, W-207, of the free class: "A k field of `f0`, `f1` or `f2`"
+unfoldable pub mixedMark : Class → List ℕ
+mixedMark Block = []
+mixedMark Free = bytes "f"
+
+-- the characters of the field k, with k mixed inputs: "k (a digit)", or `f` and a digit
+unfoldable pub mixedField : Class → ℕ → List ℕ
+mixedField C k = mixedMark C ++ decimal k
+
+-- the fields of the first line after its word: "n, m, k (a digit), M, i, products, literals"
+abbrev pub formFields : Class → (n m k M i p l : ℕ) → List (List ℕ)
+formFields C n m k M i p l = decimal n ∷ decimal m ∷ mixedField C k ∷ map decimal (M ∷ i ∷ p ∷ l ∷ [])
+
+-- those of the expansion e
+abbrev pub fieldsOf : Class → (n m k : ℕ) → Expansion → List (List ℕ)
+fieldsOf C n m k e = formFields C n m k (e .mixed) (e .fixed) (e .products) (e .literals)
 
 -- the word that a listing begins with: "`form`", and document 02, W-203, of a table that begins `table2`: "Its listing begins `form2`."
 unfoldable pub formWord : Family → List ℕ
@@ -68,8 +84,8 @@ formWord One = bytes "form"
 formWord Two = bytes "form2"
 
 -- "`form`, n, m, k (a digit), M, i, products, literals.", with the word of the family
-unfoldable pub formLine : Family → List ℕ → List ℕ
-formLine family numbers = line (formWord family) (map decimal numbers)
+unfoldable pub formLine : Family → List (List ℕ) → List ℕ
+formLine family fields = line (formWord family) fields
 
 -- "a second line, `inv` and m characters", of the inversion mask v, "bit o for output o": the characters are those of outputs, a `1` where the output
 -- is inverted
@@ -93,9 +109,9 @@ cubeLines m x c N = overNonzero (λ t. cubeLine m (x t) (c t)) c N
 abbrev pub termLines : ℕ → ℕ → (ℕ → ℕ) → (ℕ → ℕ) → ℕ → List ℕ
 termLines n m w c N = cubeLines m (λ t. cube n t (w t)) c N
 
--- "One line for each product, ascending by t", of the member M, i, φ with the coefficients c
-abbrev pub productLines : ℕ → ℕ → ℕ → ℕ → (ℕ → ℕ) → (ℕ → ℕ) → List ℕ
-productLines n m M i φ c = termLines n m (polarity n M i φ) c (2 ^ n)
+-- "One line for each product, ascending by t", of the member M, i, x with the coefficients c; x j is the choice of the block j
+abbrev pub productLines : Class → (n m k M i : ℕ) → (x c : ℕ → ℕ) → List ℕ
+productLines C n m k M i x c = termLines n m (polarity C n k M i x) c (2 ^ n)
 
 -- the cubes of the products, "ascending by t"; w t is the polarity of the term t, and c t its coefficient
 abbrev pub printedCubes : ℕ → (ℕ → ℕ) → (ℕ → ℕ) → List (List ℕ)
@@ -105,12 +121,12 @@ printedCubes n w c = overNonzero (λ t. cube n t (w t) ∷ []) c (2 ^ n)
 abbrev pub listingAfter : List ℕ → ℕ → ℕ → (ℕ → List ℕ) → (ℕ → ℕ) → List ℕ
 listingAfter first n m x c = first ++ cubeLines m x c (2 ^ n) ++ line (bytes "end") []
 
--- a whole listing of a family with these numbers on its first line and the inversion mask v on its second, of n inputs and m outputs: each term t has
+-- a whole listing of a family with these fields on its first line and the inversion mask v on its second, of n inputs and m outputs: each term t has
 -- the polarity w t and the coefficient c t
-unfoldable pub listingWith : Family → List ℕ → (v n m : ℕ) → (ℕ → ℕ) → (ℕ → ℕ) → List ℕ
-listingWith family numbers v n m w c = listingAfter (formLine family numbers ++ invLine m v) n m (λ t. cube n t (w t)) c
+unfoldable pub listingWith : Family → List (List ℕ) → (v n m : ℕ) → (ℕ → ℕ) → (ℕ → ℕ) → List ℕ
+listingWith family fields v n m w c = listingAfter (formLine family fields ++ invLine m v) n m (λ t. cube n t (w t)) c
 
--- the whole listing of the expansion e, of n inputs, m outputs and k mixed inputs, for a part of the family
-unfoldable pub listing : Family → ℕ → ℕ → ℕ → Expansion → List ℕ
-listing family n m k e =
-    listingWith family (numbersOf n m k e) (e .inverted) n m (polarity n (e .mixed) (e .fixed) (at (e .blocks))) (at (e .coefficients))
+-- the whole listing of the expansion e of a class, of n inputs, m outputs and k mixed inputs, for a part of the family
+unfoldable pub listing : Class → Family → (n m k : ℕ) → Expansion → List ℕ
+listing C family n m k e =
+    listingWith family (fieldsOf C n m k e) (e .inverted) n m (polarity C n k (e .mixed) (e .fixed) (at (e .blocks))) (at (e .coefficients))

@@ -91,7 +91,8 @@ unfoldable pub numberSaid : ℕ → List ℕ → ℕ
 numberSaid v [] = v
 numberSaid v (b ∷ f) = numberSaid (v * 10 + (b - 48)) f
 
--- the numbers on the first line after its word: "`form`, n, m, k (a digit), M, i, products, literals"
+-- the numbers on the first line after its word: "`form`, n, m, k (a digit), M, i, products, literals"; an `f` field and the letters of `kron` are no
+-- numbers, and what stands for them here is not used
 unfoldable pub firstNumbers : List ℕ → List ℕ
 firstNumbers s = map (numberSaid 0) (parts 9 (parts 10 s .first) .others)
 

@@ -1,20 +1,11 @@
 -- What a cube shows: its term, and of a polarity the bits at the term, and no more (`cube-same`, `cube-shown`). So the cubes of a listing tell
--- its terms and what they show (`printedCubes-same`), and cubes, lines and values follow from that (`printedCubes-shown`, `termLines-shown`,
--- `value-shown`).
-use mathlib.Core.Bool.{Bool}
+-- its terms and what they show (`printedCubes-same`), and cubes and lines follow from that (`printedCubes-shown`, `termLines-shown`).
 use mathlib.Core.List.{List, [], _∷_}
 use mathlib.Core.Path.{_≡_, sym, ap, _∙_}
 use Prim.Native.Nat.{ℕ, _^_, _<_}
 use native.Mathlib.Decide.{ℕ-discrete}
-use lib.Bits.{bitAnd, bitXor}
-use lib.Dec.{eqb}
-use Rattle.numbers.specs.Bits.{inside}
-use Rattle.numbers.specs.Tests.{only}
-use Rattle.numbers.proofs.Ands.{and-xor}
+use lib.Bits.{bitAnd}
 use Rattle.numbers.proofs.Nonzero.{nonzero-ext, overNonzero-ext, overNonzero-same}
-use Rattle.numbers.proofs.Sums.{fold-ext}
-use Rattle.numbers.proofs.Tests.{only-zero}
-use Rattle.algebra.specs.Terms.{holds, value}
 use Rattle.listings.specs.Listing.{line, cube, outputBytes, cubeLine, termLine, termLines, printedCubes}
 use Rattle.listings.specs.Parts.{bytes}
 use Rattle.listings.proofs.Cubes.{cube-masked}
@@ -30,7 +21,7 @@ cube-same n t w t′ w′ h h′ e = (
   sym (complement-cube n t w h) ∙ ap complementShown e ∙ complement-cube n t′ w′ h′,
 )
 
--- of a polarity only the bits at the term count: for its cube, its line and its truth at a point
+-- of a polarity only the bits at the term count: for its cube and its line
 module _ (t w w′ : ℕ) (e : bitAnd t w ≡ bitAnd t w′) where
   cube-shown : (n : ℕ) → cube n t w ≡ cube n t w′
   cube-shown n = sym (cube-masked n t w) ∙ ap (cube n t) e ∙ cube-masked n t w′
@@ -38,10 +29,6 @@ module _ (t w w′ : ℕ) (e : bitAnd t w ≡ bitAnd t w′) where
   termLine-shown : (n m c : ℕ) → termLine n m t w c ≡ termLine n m t w′ c
   unfolding cubeLine
   termLine-shown n m c = ap (λ (x : List ℕ). line (bytes "term") (x ∷ outputBytes m c ∷ [])) (cube-shown n)
-
-  holds-shown : (p : ℕ) → holds t w p ≡ holds t w′ p
-  unfolding holds inside
-  holds-shown p = ap (λ (x : ℕ). eqb x t) (and-xor t p w ∙ ap (bitXor (bitAnd t p)) e ∙ sym (and-xor t p w′))
 
 -- ---- all cubes
 
@@ -65,7 +52,7 @@ printedCubes-same n w c w′ c′ e t h = (
   λ u. cube-same n t (w t) t (w′ t) h h (used-same n w c w′ c′ e t h u .1) .1,
 )
 
--- cubes, lines and values depend on no more
+-- cubes and lines depend on no more
 module _ (n : ℕ) (w w′ c : ℕ → ℕ) (e : (t : ℕ) → t < 2 ^ n → (c t ≡ 0 → ⊥) → bitAnd t (w t) ≡ bitAnd t (w′ t)) where
   pub printedCubes-shown : printedCubes n w c ≡ printedCubes n w′ c
   printedCubes-shown =
@@ -73,10 +60,3 @@ module _ (n : ℕ) (w w′ c : ℕ → ℕ) (e : (t : ℕ) → t < 2 ^ n → (c 
 
   pub termLines-shown : (m : ℕ) → termLines n m w c (2 ^ n) ≡ termLines n m w′ c (2 ^ n)
   termLines-shown m = overNonzero-ext _ _ c c (2 ^ n) (λ t h. nonzero-ext (c t) _ _ (λ u. termLine-shown t (w t) (w′ t) (e t h u) n m (c t)))
-
-  pub value-shown : (p : ℕ) → value n w c p ≡ value n w′ c p
-  unfolding value
-  value-shown p = fold-ext bitXor (2 ^ n) _ _ (λ t h. go t h (ℕ-discrete (c t) 0)) where
-    go : (t : ℕ) → t < 2 ^ n → Dec (c t ≡ 0) → only (holds t (w t) p) (c t) ≡ only (holds t (w′ t) p) (c t)
-    go t h (yes z) = rw z (only-zero (holds t (w t) p) ∙ sym (only-zero (holds t (w′ t) p)))
-    go t h (no z) = ap (λ (b : Bool). only b (c t)) (holds-shown t (w t) (w′ t) (e t h z) p)

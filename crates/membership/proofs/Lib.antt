@@ -1,4 +1,4 @@
 pub mod Cubes
 pub mod Shown
 pub mod Class
-pub mod Answers
+pub mod FreeClass

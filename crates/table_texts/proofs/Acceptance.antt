@@ -5,7 +5,8 @@ use mathlib.Core.Path.{_≡_, sym, ap, _∙_}
 use Prim.Native.Nat.{ℕ, _^_, _≤_}
 use native.Mathlib.Omega.{arith}
 use Rattle.numbers.specs.Bytes.{at}
-use Rattle.expansions.specs.declared.kinds.Kind.the-variants.{Block}
+use Rattle.expansions.specs.declared.kinds.Class.the-variants.{Block}
+use Rattle.expansions.specs.declared.kinds.Kind.the-variants.{Mixed}
 use Rattle.listings.specs.Parts.{bytes}
 use Rattle.listings.specs.Listing.{line, decimal}
 use Rattle.listings.proofs.Joined.{Plain, parts-lines}
@@ -47,6 +48,6 @@ unfolding tableText
 table-text-accepted d t g =
     text-accepted (kindField (d .kind)) d t (plain-kind (d .kind)) (kind-said (d .n) (d .kind) (g .sized .mixed)) g
 
-pub dash-text-accepted : (d : Design) (t : List ℕ) → Accepted d t → d .kind ≡ Block 1 → reading (dashText d t) ≡ given d t
+pub dash-text-accepted : (d : Design) (t : List ℕ) → Accepted d t → d .kind ≡ Mixed Block 1 → reading (dashText d t) ≡ given d t
 unfolding dashText
 dash-text-accepted d t g e = text-accepted (bytes "-") d t plain-dash (kind-dash ∙ ap kind.Is (sym e)) g

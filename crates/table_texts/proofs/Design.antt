@@ -1,6 +1,6 @@
--- What a design's refusal of 0 says: it is a design of document 01 or 02 (`design-none`); and back (`design-accepted`). A design whose kind is a
--- number k is the one with these sizes (`block-design`), which are within document 01's limits (`block-sized`). One whose kind is `K` is of family one
--- (`kronecker-design`).
+-- What a design's refusal of 0 says: it is a design of document 01 or 02 (`design-none`); and back (`design-accepted`). A design whose kind is a class
+-- and a number k is the one with these sizes (`mixed-design`), which are within the limits of the class (`mixed-sized`). One whose kind is `K` is of
+-- family one (`kronecker-design`).
 use mathlib.Core.Bool.{Bool, true, false, _&&_}
 use mathlib.Core.Path.{_≡_, refl, ap, ap₂, subst}
 use Prim.Native.Nat.{ℕ, _≤_}
@@ -10,16 +10,18 @@ use Rattle.numbers.specs.Refusals.{unless, tableRefusal, TableSized, Sized}
 use Rattle.numbers.proofs.refusals.Judging.{table-none, table-accepted, sizes-none, sizes-accepted, sizes-most}
 use Rattle.expansions.specs.declared.families.Family.{Family}
 use Rattle.expansions.specs.declared.families.Family.the-variants.{One, Two}
+use Rattle.expansions.specs.declared.kinds.Class.{Class}
 use Rattle.expansions.specs.declared.kinds.Kind.{Kind}
-use Rattle.expansions.specs.declared.kinds.Kind.the-variants.{Block, Kronecker}
+use Rattle.expansions.specs.declared.kinds.Kind.the-variants.{Mixed, Kronecker}
+use Rattle.expansions.specs.Classes.{mostMixed}
 use Rattle.table_texts.specs.declared.sizes.Sizes.{Sizes}
 use Rattle.table_texts.specs.declared.sizes.Design.{Design}
-use Rattle.table_texts.specs.Design.{blockDesign, kroneckerDesign, kindRefusal, designRefusal, KindSized, KindFor, DesignSized}
+use Rattle.table_texts.specs.Design.{mixedDesign, kroneckerDesign, kindRefusal, designRefusal, KindSized, KindFor, DesignSized}
 
 -- ---- a refusal of 0
 
 kind-none : (family : Family) (n m : ℕ) (x : Kind) → kindRefusal family n m x ≡ 0 → TableSized n m × KindSized n x × KindFor family x
-kind-none family n m (Block k) e = let s = sizes-none n m k e in (record { inputs = s .inputs; outputs = s .outputs }, s .mixed, tt)
+kind-none family n m (Mixed C k) e = let s = sizes-none n m (mostMixed C) k e in (record { inputs = s .inputs; outputs = s .outputs }, s .mixed, tt)
 kind-none One n m Kronecker e = (table-none n m e, tt, tt)
 kind-none Two n m Kronecker e = absurd (omega arith)
 
@@ -30,7 +32,7 @@ design-none d e =
     record { inputs = s .0 .inputs; outputs = s .0 .outputs; mixed = s .1; family = s .2 }
 
 kind-accepted : (family : Family) (n m : ℕ) (x : Kind) → TableSized n m → KindSized n x → KindFor family x → kindRefusal family n m x ≡ 0
-kind-accepted family n m (Block k) s h g = sizes-accepted n m k (record { inputs = s .inputs; outputs = s .outputs; mixed = h })
+kind-accepted family n m (Mixed C k) s h g = sizes-accepted n m (mostMixed C) k (record { inputs = s .inputs; outputs = s .outputs; mixed = h })
 kind-accepted One n m Kronecker s h g = table-accepted n m s
 kind-accepted Two n m Kronecker s h g = absurd g
 
@@ -39,12 +41,13 @@ kind-accepted Two n m Kronecker s h g = absurd g
 pub table-sized : (d : Design) → DesignSized d → TableSized (d .n) (d .m)
 table-sized d s = record { inputs = s .inputs; outputs = s .outputs }
 
-pub block-sized : (d : Design) (k : ℕ) → d .kind ≡ Block k → DesignSized d → Sized (d .n) (d .m) k
-block-sized d k e s = record { inputs = s .inputs; outputs = s .outputs; mixed = subst (KindSized (d .n)) e (s .mixed) }
+pub mixed-sized : (d : Design) (C : Class) (k : ℕ) → d .kind ≡ Mixed C k → DesignSized d → Sized (d .n) (d .m) (mostMixed C) k
+mixed-sized d C k e s = record { inputs = s .inputs; outputs = s .outputs; mixed = subst (KindSized (d .n)) e (s .mixed) }
 
--- a design whose kind is a number k is the one of document 01's class with these sizes
-pub block-design : (d : Design) (k : ℕ) → d .kind ≡ Block k → d ≡ blockDesign (record { n = d .n; m = d .m; k = k; family = d .family })
-block-design d k e = ap (λ (x : Kind). record { n = d .n; m = d .m; kind = x; family = d .family }) e
+-- a design whose kind is a class and a number k is the one with these sizes
+pub mixed-design : (d : Design) (C : Class) (k : ℕ) → d .kind ≡ Mixed C k
+    → d ≡ mixedDesign (record { n = d .n; m = d .m; class = C; k = k; family = d .family })
+mixed-design d C k e = ap (λ (x : Kind). record { n = d .n; m = d .m; kind = x; family = d .family }) e
 
 kronecker-family : (family : Family) → KindFor family Kronecker → family ≡ One
 kronecker-family One h = refl
@@ -55,8 +58,8 @@ kronecker-design d e s =
     ap₂ (λ (x : Kind) (family : Family). record { n = d .n; m = d .m; kind = x; family = family }) e
     (kronecker-family (d .family) (subst (KindFor (d .family)) e (s .family)))
 
-pub sized-block : (z : Sizes) → Sized (z .n) (z .m) (z .k) → DesignSized (blockDesign z)
-sized-block z s = record { inputs = s .inputs; outputs = s .outputs; mixed = s .mixed; family = tt }
+pub sized-mixed : (z : Sizes) → Sized (z .n) (z .m) (mostMixed (z .class)) (z .k) → DesignSized (mixedDesign z)
+sized-mixed z s = record { inputs = s .inputs; outputs = s .outputs; mixed = s .mixed; family = tt }
 
 pub design-accepted : (d : Design) → DesignSized d → designRefusal d ≡ 0
 unfolding designRefusal
@@ -76,6 +79,6 @@ pub design-most : (d : Design) → designRefusal d ≤ 4
 unfolding designRefusal
 design-most d = go (d .family) (d .kind) where
   go : (family : Family) (x : Kind) → kindRefusal family (d .n) (d .m) x ≤ 4
-  go family (Block k) = sizes-most (d .n) (d .m) k
+  go family (Mixed C k) = sizes-most (d .n) (d .m) (mostMixed C) k
   go One Kronecker = table-most (d .n) (d .m)
   go Two Kronecker = omega arith

@@ -1,20 +1,22 @@
 -- The first line of a table text. It is read as the design that it was written for (`design-said`), and a line that says a design is the line that
--- is written for it, with the digit k or `K`, or where k is 1 with `-` (`design-read`, `kind-read`). With `table2` and `K` it is refused by 1
--- (`kronecker-two`).
+-- is written for it, with the characters of its kind of k, or where this is document 01's class with 1 mixed input with `-` (`design-read`,
+-- `kind-read`). With `table2` and `K` it is refused by 1 (`kronecker-two`).
 use mathlib.Core.Bool.{Bool, true, false, cond}
 use mathlib.Core.List.{List, [], _∷_, _++_}
 use mathlib.Core.Logic.{_⊎_, inl, inr}
-use mathlib.Core.Path.{_≡_, refl, ap, ap₂, _∙_}
-use Prim.Native.Nat.{ℕ, _+_, _<_}
+use mathlib.Core.Path.{_≡_, refl, sym, ap, ap₂, _∙_}
+use Prim.Native.Nat.{ℕ, _<_}
 use native.Mathlib.Omega.{arith}
-use borrow.Author.Tests.{ne-eqb}
-use lib.Dec.{eqb, lit<}
+use lib.Dec.{lit<}
 use Rattle.expansions.specs.declared.families.Family.{Family}
 use Rattle.expansions.specs.declared.families.Family.the-variants.{One, Two}
+use Rattle.expansions.specs.declared.kinds.Class.{Class}
+use Rattle.expansions.specs.declared.kinds.Class.the-variants.{Block, Free}
 use Rattle.expansions.specs.declared.kinds.Kind.{Kind}
-use Rattle.expansions.specs.declared.kinds.Kind.the-variants.{Block, Kronecker}
+use Rattle.expansions.specs.declared.kinds.Kind.the-variants.{Mixed, Kronecker}
+use Rattle.expansions.proofs.Classes.{most-three}
 use Rattle.listings.specs.Parts.{parts, bytes, same, fields, field}
-use Rattle.listings.specs.Listing.{tabbed, decimal}
+use Rattle.listings.specs.Listing.{tabbed, decimal, mixedMark, mixedField}
 use Rattle.listings.proofs.Joined.{Plain, AllPlain, parts-fields}
 use Rattle.listings.proofs.Meaning.{plain-decimal}
 use Rattle.listings.proofs.Words.{same-equal}
@@ -22,9 +24,11 @@ use Rattle.fields.specs.declared.words.FamilyRead.{FamilyRead}
 use Rattle.fields.specs.declared.words.FamilyRead.the-variants as family
 use Rattle.fields.specs.declared.values.Number.{Number}
 use Rattle.fields.specs.declared.values.Number.the-variants.{Is, Wrong}
-use Rattle.fields.specs.Fields.{oneDigit, familyOf, familyThen}
-use Rattle.fields.proofs.Written.{decimal-one, oneDigit-decimal}
-use Rattle.fields.proofs.FieldsRead.{oneDigit-read}
+use Rattle.fields.specs.declared.values.MixedRead.{MixedRead}
+use Rattle.fields.specs.declared.values.MixedRead.the-variants as mixed
+use Rattle.fields.specs.Fields.{digit, oneDigit, mixedSaid, familyOf, familyThen}
+use Rattle.fields.proofs.Written.{oneDigit-decimal, mixed-said}
+use Rattle.fields.proofs.FieldsRead.{oneDigit-read, mixed-read}
 use Rattle.fields.proofs.Headed.{list-each, family-said, family-read}
 use Rattle.table_texts.specs.declared.first.KindRead.{KindRead}
 use Rattle.table_texts.specs.declared.first.KindRead.the-variants as kind
@@ -32,20 +36,30 @@ use Rattle.table_texts.specs.declared.first.FirstLine.the-variants as fi
 use Rattle.table_texts.specs.declared.sizes.Design.{Design}
 use Rattle.table_texts.specs.declared.read.ReadAnswer.the-variants as answer
 use Rattle.table_texts.specs.Design.{designRefusal, KindSized}
-use Rattle.table_texts.specs.First.{digitKind, kindOf, tableLine, tableWord, firstLine}
+use Rattle.table_texts.specs.First.{mixedKind, kindOf, tableLine, tableWord, firstLine}
 use Rattle.table_texts.specs.Read.{judgedFirst}
 use Rattle.table_texts.specs.TableTexts.{kindField}
 
 -- ---- the kind of k
 
-pub kind-decimal : (x : ℕ) → x < 10 → kindOf (decimal x) ≡ kind.Is (Block x)
-unfolding kindOf same bytes
-kind-decimal x h =
-    let dash : eqb (48 + x) 45 ≡ false = ne-eqb (48 + x) 45 (λ e. omega arith) in
-    let letter : eqb (48 + x) 75 ≡ false = ne-eqb (48 + x) 75 (λ e. omega arith) in
-    ap kindOf (decimal-one x h) ∙ rw (dash, letter) (ap digitKind (rw (decimal-one x h) at (oneDigit-decimal x h)))
+-- a field that says a class and its k is not a word that says none
+other-than : (w f : List ℕ) (C : Class) (k : ℕ) → mixedSaid w ≡ mixed.Wrong → mixedSaid f ≡ mixed.Is C k → same f w ≡ false
+other-than w f C k wrong said = go (same f w) refl where
+  go : (t : Bool) → same f w ≡ t → t ≡ false
+  go false h = refl
+  go true h =
+      let both : mixed.Wrong ≡ mixed.Is C k = sym wrong ∙ ap mixedSaid (sym (same-equal f w h)) ∙ said in
+      let z : _≡_ {A = ℕ} 0 1 = cc in absurd (omega arith)
 
-pub kind-dash : kindOf (bytes "-") ≡ kind.Is (Block 1)
+pub kind-mixed : (C : Class) (k : ℕ) → k < 10 → kindOf (mixedField C k) ≡ kind.Is (Mixed C k)
+unfolding kindOf mixedSaid oneDigit digit bytes
+kind-mixed C k h =
+    let said = mixed-said C k h in
+    let dash = other-than (bytes "-") (mixedField C k) C k refl said in
+    let letter = other-than (bytes "K") (mixedField C k) C k refl said in
+    rw (dash, letter) (ap mixedKind said)
+
+pub kind-dash : kindOf (bytes "-") ≡ kind.Is (Mixed Block 1)
 unfolding kindOf same bytes
 kind-dash = refl
 
@@ -56,31 +70,31 @@ kind-kronecker = refl
 -- the characters that are written for a kind say it
 pub kind-said : (n : ℕ) (x : Kind) → KindSized n x → kindOf (kindField x) ≡ kind.Is x
 unfolding kindField
-kind-said n (Block k) s = kind-decimal k (omega (arith, s .0))
+kind-said n (Mixed C k) s = kind-mixed C k (omega (arith, s .0, most-three C))
 kind-said n Kronecker s = kind-kronecker
 
 wrong-kind : {x : Kind} → kind.Wrong ≡ kind.Is x → ⊥
 wrong-kind e = let z : _≡_ {A = ℕ} 0 1 = cc in omega arith
 
-digit-read : (f : List ℕ) (x : Kind) (d : Number) → oneDigit f ≡ d → digitKind d ≡ kind.Is x → f ≡ kindField x
+class-read : (f : List ℕ) (x : Kind) (y : MixedRead) → mixedSaid f ≡ y → mixedKind y ≡ kind.Is x → f ≡ kindField x
 unfolding kindField
-digit-read f x (Is k) h e =
-    let same : Block k ≡ x = cc in
-    oneDigit-read f k h ∙ ap kindField same
-digit-read f x Wrong h e = absurd (wrong-kind e)
+class-read f x (mixed.Is C k) h e =
+    let same : Mixed C k ≡ x = cc in
+    mixed-read f C k h .0 ∙ ap kindField same
+class-read f x mixed.Wrong h e = absurd (wrong-kind e)
 
 -- characters that say a kind are those that are written for it, or `-` for 1
-pub kind-read : (f : List ℕ) (x : Kind) → kindOf f ≡ kind.Is x → (f ≡ kindField x) ⊎ ((x ≡ Block 1) × (f ≡ bytes "-"))
+pub kind-read : (f : List ℕ) (x : Kind) → kindOf f ≡ kind.Is x → (f ≡ kindField x) ⊎ ((x ≡ Mixed Block 1) × (f ≡ bytes "-"))
 unfolding kindOf kindField
 kind-read f x e = go (same f (bytes "-")) refl (same f (bytes "K")) refl e where
   go : (t : Bool) → same f (bytes "-") ≡ t → (u : Bool) → same f (bytes "K") ≡ u
-      → cond t (kind.Is (Block 1)) (cond u (kind.Is Kronecker) (digitKind (oneDigit f))) ≡ kind.Is x
-      → (f ≡ kindField x) ⊎ ((x ≡ Block 1) × (f ≡ bytes "-"))
+      → cond t (kind.Is (Mixed Block 1)) (cond u (kind.Is Kronecker) (mixedKind (mixedSaid f))) ≡ kind.Is x
+      → (f ≡ kindField x) ⊎ ((x ≡ Mixed Block 1) × (f ≡ bytes "-"))
   go true h u k g = inr (cc, same-equal f (bytes "-") h)
   go false h true k g =
       let is : Kronecker ≡ x = cc in
       inl (same-equal f (bytes "K") k ∙ ap kindField is)
-  go false h false k g = inl (digit-read f x (oneDigit f) refl g)
+  go false h false k g = inl (class-read f x (mixedSaid f) refl g)
 
 -- ---- what is written is read
 
@@ -98,8 +112,9 @@ unfolding bytes
 plain-dash = (lit< tt, tt)
 
 pub plain-kind : (x : Kind) → Plain (kindField x)
-unfolding kindField bytes
-plain-kind (Block k) = plain-decimal k
+unfolding kindField mixedField mixedMark bytes
+plain-kind (Mixed Block k) = plain-decimal k
+plain-kind (Mixed Free k) = (lit< tt, plain-decimal k)
 plain-kind Kronecker = (lit< tt, tt)
 
 pub design-said : (d : Design) (k : List ℕ) → d .n < 10 → d .m < 10 → Plain k → kindOf k ≡ kind.Is (d .kind)

@@ -1,12 +1,13 @@
--- An accepted text is the text that is written for its own design and its own table, with the digit k or `K`, or where k is 1 with `-`
--- (`accepted-text`). So just these texts are accepted (`accepted-exactly`).
+-- An accepted text is the text that is written for its own design and its own table, with the characters of its kind of k, or where this is document
+-- 01's class with 1 mixed input with `-` (`accepted-text`). So just these texts are accepted (`accepted-exactly`).
 use mathlib.Core.List.{List, [], _∷_, _++_, append-assoc}
 use mathlib.Core.Logic.{_⊎_, inl, inr, _↔_}
 use mathlib.Core.Path.{_≡_, sym, ap, ap₂, refl, subst, _∙_}
 use Prim.Native.Nat.{ℕ, _^_, _≤_}
 use lib.ListN.{replicate}
 use Rattle.numbers.specs.Bytes.{at}
-use Rattle.expansions.specs.declared.kinds.Kind.the-variants.{Block}
+use Rattle.expansions.specs.declared.kinds.Class.the-variants.{Block}
+use Rattle.expansions.specs.declared.kinds.Kind.the-variants.{Mixed}
 use Rattle.listings.specs.Parts.{parts, bytes}
 use Rattle.listings.specs.Listing.{tabbed, line, decimal}
 use Rattle.listings.proofs.Parts.{separated, parts-joined}
@@ -75,22 +76,22 @@ unfolding reading
 text-read s d t e = subst (λ (r : List ℕ). TextRead r d t) (parts-joined 10 s) (all-read (parts 10 s .first) (parts 10 s .others) d t e)
 
 pub accepted-text : (s : List ℕ) (d : Design) (t : List ℕ) → reading s ≡ given d t
-    → (s ≡ tableText d t) ⊎ ((d .kind ≡ Block 1) × (s ≡ dashText d t))
+    → (s ≡ tableText d t) ⊎ ((d .kind ≡ Mixed Block 1) × (s ≡ dashText d t))
 unfolding tableText dashText
 accepted-text s d t e = go (text-read s d t e) where
-  go : TextRead s d t → (s ≡ textWith (kindField (d .kind)) d t) ⊎ ((d .kind ≡ Block 1) × (s ≡ textWith (bytes "-") d t))
+  go : TextRead s d t → (s ≡ textWith (kindField (d .kind)) d t) ⊎ ((d .kind ≡ Mixed Block 1) × (s ≡ textWith (bytes "-") d t))
   go r = either (kind-read (r .kind-field) (d .kind) (r .said)) where
     written : (k : List ℕ) → r .kind-field ≡ k → s ≡ textWith k d t
     written k h = r .characters ∙ ap (λ (k : List ℕ). textWith k d t) h
 
-    either : (r .kind-field ≡ kindField (d .kind)) ⊎ ((d .kind ≡ Block 1) × (r .kind-field ≡ bytes "-"))
-        → (s ≡ textWith (kindField (d .kind)) d t) ⊎ ((d .kind ≡ Block 1) × (s ≡ textWith (bytes "-") d t))
+    either : (r .kind-field ≡ kindField (d .kind)) ⊎ ((d .kind ≡ Mixed Block 1) × (r .kind-field ≡ bytes "-"))
+        → (s ≡ textWith (kindField (d .kind)) d t) ⊎ ((d .kind ≡ Mixed Block 1) × (s ≡ textWith (bytes "-") d t))
     either (inl h) = inl (written (kindField (d .kind)) h)
     either (inr h) = inr (h .0, written (bytes "-") (h .1))
 
 pub accepted-exactly : (s : List ℕ) (d : Design) (t : List ℕ)
-    → (reading s ≡ given d t) ↔ (Accepted d t × ((s ≡ tableText d t) ⊎ ((d .kind ≡ Block 1) × (s ≡ dashText d t))))
+    → (reading s ≡ given d t) ↔ (Accepted d t × ((s ≡ tableText d t) ⊎ ((d .kind ≡ Mixed Block 1) × (s ≡ dashText d t))))
 accepted-exactly s d t = (λ e. (reading-accepted s d t e, accepted-text s d t e), λ h. back (h .0) (h .1)) where
-  back : Accepted d t → (s ≡ tableText d t) ⊎ ((d .kind ≡ Block 1) × (s ≡ dashText d t)) → reading s ≡ given d t
+  back : Accepted d t → (s ≡ tableText d t) ⊎ ((d .kind ≡ Mixed Block 1) × (s ≡ dashText d t)) → reading s ≡ given d t
   back g (inl e) = ap reading e ∙ table-text-accepted d t g
   back g (inr e) = ap reading (e .1) ∙ dash-text-accepted d t g (e .0)

@@ -1,6 +1,6 @@
--- An accepted text has at most 4,003 bytes (`accepted-text-length`), so that its first 8,192 bytes are the whole of it
--- (`accepted-text-first`): "every text that can be accepted is shorter". There are accepted texts of 4,003 bytes with `table2`, and of 4,002 with `table`
--- (`longest-accepted`, `longest-length`).
+-- An accepted text has at most 4,004 bytes (`accepted-text-length`), so that its first 8,192 bytes are the whole of it
+-- (`accepted-text-first`): "every text that can be accepted is shorter". There are accepted texts of 4,004 bytes with `table2` and an `f` field; `table`
+-- or a k of one character has a byte less (`longest-accepted`, `longest-length`, `longest-text`).
 use mathlib.Core.Bool.{Bool, true, false}
 use mathlib.Core.List.{List}
 use mathlib.Core.Logic.{_⊎_, inl, inr}
@@ -17,13 +17,16 @@ use Rattle.numbers.specs.Sums.{foldBelow, sumBelow}
 use Rattle.numbers.proofs.Nonzero.{nonzero-some, overNonzero-zero}
 use Rattle.expansions.specs.declared.families.Family.{Family}
 use Rattle.expansions.specs.declared.families.Family.the-variants.{One, Two}
+use Rattle.expansions.specs.declared.kinds.Class.{Class}
+use Rattle.expansions.specs.declared.kinds.Class.the-variants.{Block, Free}
 use Rattle.expansions.specs.declared.kinds.Kind.{Kind}
-use Rattle.expansions.specs.declared.kinds.Kind.the-variants.{Block, Kronecker}
+use Rattle.expansions.specs.declared.kinds.Kind.the-variants.{Mixed, Kronecker}
+use Rattle.expansions.proofs.Classes.{most-three}
 use Rattle.table_texts.specs.declared.sizes.Design.{Design}
 use Rattle.table_texts.specs.Design.{KindSized, KindFor}
 use Rattle.table_texts.specs.Accepted.{Accepted}
 use Rattle.listings.specs.Parts.{bytes}
-use Rattle.listings.specs.Listing.{tabbed, line, digitCount}
+use Rattle.listings.specs.Listing.{tabbed, line, digitCount, descending, decimal, mixedMark, mixedField}
 use Rattle.table_texts.specs.First.{tableWord}
 use Rattle.table_texts.specs.Read.{given, reading}
 use Rattle.table_texts.proofs.read.Accepted.{reading-accepted}
@@ -64,9 +67,9 @@ digits-total = refl
 
 -- ---- the text
 
-length-designLine : (d : Design) (k : List ℕ) → d .n < 10 → d .m < 10 → length k ≡ 1 → length (designLine d k) ≡ length (tableWord (d .family)) + 7
+length-designLine : (d : Design) (k : List ℕ) → d .n < 10 → d .m < 10 → length (designLine d k) ≡ length (tableWord (d .family)) + 6 + length k
 unfolding designLine line tabbed
-length-designLine d k hn hm h =
+length-designLine d k hn hm =
     simp (length-append, length-decimal) (omega (arith, digitCount-one (d .n) hn, digitCount-one (d .m) hm))
 
 length-textWith : (k : List ℕ) (d : Design) (t : List ℕ)
@@ -74,23 +77,35 @@ length-textWith : (k : List ℕ) (d : Design) (t : List ℕ)
 unfolding textWith line tabbed bytes
 length-textWith k d t = simp length-append (omega arith)
 
-text-length : (k : List ℕ) (d : Design) (t : List ℕ) → Accepted d t → length k ≡ 1 → length (textWith k d t) ≤ 3997 + length (tableWord (d .family))
-text-length k d t g h =
+text-length : (k : List ℕ) (d : Design) (t : List ℕ) → Accepted d t → length (textWith k d t) ≤ 3996 + length (tableWord (d .family)) + length k
+text-length k d t g =
     let same : pointLines (d .m) (at t) 256 ≡ pointLines (d .m) (at t) (2 ^ d .n) =
     overNonzero-zero (λ p. pointLine (d .m) p (at t p)) (at t) (2 ^ d .n) 256 (g .table .rest) (points-le (d .n) (g .sized .inputs .1)) in
     let points : length (pointLines (d .m) (at t) (2 ^ d .n)) ≤ 256 * (5 + d .m) + sumBelow 256 digitCount = rw same at (pointLines-le (d .m) (at t) 256) in
-    let first : length (designLine d k) ≡ length (tableWord (d .family)) + 7 = length-designLine d k (omega (arith, g .sized .inputs)) (omega (arith, g .sized .outputs)) h in
-    omega (arith, length-textWith k d t, g .sized .outputs, digits-total)
+    let first = length-designLine d k (omega (arith, g .sized .inputs)) (omega (arith, g .sized .outputs)) in
+    omega (arith, length-textWith k d t, first, g .sized .outputs, digits-total)
 
 length-dash : length (bytes "-") ≡ 1
 unfolding bytes
 length-dash = refl
 
--- the characters for the kind of k are one
-length-kind : (n : ℕ) (x : Kind) → KindSized n x → length (kindField x) ≡ 1
-unfolding kindField bytes
-length-kind n (Block k) h = length-decimal k ∙ digitCount-one k (omega (arith, h .0))
-length-kind n Kronecker h = refl
+-- an `f` field is the longest of the characters for the kind of k
+length-mark : (C : Class) → length (mixedMark C) ≤ 1
+unfolding mixedMark bytes
+length-mark Block = omega arith
+length-mark Free = omega arith
+
+length-kind : (n : ℕ) (x : Kind) → KindSized n x → length (kindField x) ≤ 2
+unfolding kindField mixedField bytes
+length-kind n (Mixed C k) h =
+    omega (
+      arith,
+      length-append (mixedMark C) (decimal k),
+      length-mark C,
+      length-decimal k,
+      digitCount-one k (omega (arith, h .0, most-three C)),
+    )
+length-kind n Kronecker h = omega arith
 
 -- `table2` is the longer of the two words
 length-tableWord : (family : Family) → length (tableWord family) ≤ 6
@@ -98,13 +113,13 @@ unfolding tableWord bytes
 length-tableWord One = omega arith
 length-tableWord Two = omega arith
 
-pub accepted-text-length : (s : List ℕ) (d : Design) (t : List ℕ) → reading s ≡ given d t → length s ≤ 4003
+pub accepted-text-length : (s : List ℕ) (d : Design) (t : List ℕ) → reading s ≡ given d t → length s ≤ 4004
 unfolding tableText dashText
 accepted-text-length s d t e = go (reading-accepted s d t e) (accepted-text s d t e) where
-  go : Accepted d t → (s ≡ tableText d t) ⊎ ((d .kind ≡ Block 1) × (s ≡ dashText d t)) → length s ≤ 4003
+  go : Accepted d t → (s ≡ tableText d t) ⊎ ((d .kind ≡ Mixed Block 1) × (s ≡ dashText d t)) → length s ≤ 4004
   go g (inl h) =
-      rw h (omega (arith, text-length (kindField (d .kind)) d t g (length-kind (d .n) (d .kind) (g .sized .mixed)), length-tableWord (d .family)))
-  go g (inr h) = rw (h .1) (omega (arith, text-length (bytes "-") d t g length-dash, length-tableWord (d .family)))
+      rw h (omega (arith, text-length (kindField (d .kind)) d t g, length-kind (d .n) (d .kind) (g .sized .mixed), length-tableWord (d .family)))
+  go g (inr h) = rw (h .1) (omega (arith, text-length (bytes "-") d t g, length-dash, length-tableWord (d .family)))
 
 -- "the first 8,192 bytes of standard input as the whole text"
 pub accepted-text-first : (s : List ℕ) (d : Design) (t : List ℕ) → reading s ≡ given d t → take 8192 s ≡ s
@@ -150,12 +165,16 @@ pub longest-accepted : (family : Family) (x : Kind) → KindSized 8 x → KindFo
     → reading (tableText (fullDesign family x) fullTable) ≡ given (fullDesign family x) fullTable
 longest-accepted family x h g = table-text-accepted (fullDesign family x) fullTable (full-accepted family x h g)
 
--- the bound is met, with the word of each family
-pub longest-length : (family : Family) (x : Kind) → KindSized 8 x → length (tableText (fullDesign family x) fullTable) ≡ 3997 + length (tableWord family)
+-- how long it is, with the word of each family and the characters of each kind
+pub longest-length : (family : Family) (x : Kind) → length (tableText (fullDesign family x) fullTable) ≡ 3996 + length (tableWord family) + length (kindField x)
 unfolding tableText
-longest-length family x h =
+longest-length family x =
     let points : length (pointLines 8 (at fullTable) 256) ≡ 256 * (5 + 8) + sumBelow 256 digitCount =
     pointLines-full 8 (at fullTable) 256 (λ p l e. omega (arith, full-point p l)) in
-    let first : length (designLine (fullDesign family x) (kindField x)) ≡ length (tableWord family) + 7 =
-    length-designLine (fullDesign family x) (kindField x) (lit< tt) (lit< tt) (length-kind 8 x h) in
-    omega (arith, length-textWith (kindField x) (fullDesign family x) fullTable, digits-total)
+    let first = length-designLine (fullDesign family x) (kindField x) (lit< tt) (lit< tt) in
+    omega (arith, length-textWith (kindField x) (fullDesign family x) fullTable, first, digits-total)
+
+-- the bound is met
+pub longest-text : length (tableText (fullDesign Two (Mixed Free 2)) fullTable) ≡ 4004
+unfolding tableWord kindField mixedField mixedMark bytes decimal descending digitCount
+longest-text = longest-length Two (Mixed Free 2)

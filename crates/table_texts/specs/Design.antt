@@ -1,25 +1,28 @@
 -- The design that a table text is for: n inputs, m outputs, the kind of k and the family. Document 02, W-202: "A k field of `K` selects it; the
--- reading call returns the kind of k.", and W-203: "The reading call returns the family too".
+-- reading call returns the kind of k.", W-203: "The reading call returns the family too", and W-207: "A k field of `f0`, `f1` or `f2` selects the free
+-- class".
 use Prim.Native.Nat.{ℕ, _≤_}
 use Rattle.numbers.specs.Refusals.{tableRefusal, sizesRefusal}
 use Rattle.expansions.specs.declared.families.Family.{Family}
 use Rattle.expansions.specs.declared.families.Family.the-variants.{One, Two}
 use Rattle.expansions.specs.declared.kinds.Kind.{Kind}
-use Rattle.expansions.specs.declared.kinds.Kind.the-variants.{Block, Kronecker}
+use Rattle.expansions.specs.declared.kinds.Kind.the-variants.{Mixed, Kronecker}
+use Rattle.expansions.specs.Classes.{mostMixed}
 use Rattle.table_texts.specs.declared.sizes.Sizes.{Sizes}
 use Rattle.table_texts.specs.declared.sizes.Design.{Design}
 
--- the design of document 01's class with the sizes z
-abbrev pub blockDesign : Sizes → Design
-blockDesign z = record { n = z .n; m = z .m; kind = Block (z .k); family = z .family }
+-- the design with the sizes z, of either class
+abbrev pub mixedDesign : Sizes → Design
+mixedDesign z = record { n = z .n; m = z .m; kind = Mixed (z .class) (z .k); family = z .family }
 
 -- the design of n inputs and m outputs whose k field is `K`: "`K` is for `table` only"
 abbrev pub kroneckerDesign : (n m : ℕ) → Design
 kroneckerDesign n m = record { n = n; m = m; kind = Kronecker; family = One }
 
--- the refusal of n and m with each kind: a number k has a limit of its own, and "`K` is for `table` only; with `table2` it is refusal 1"
+-- the refusal of n and m with each kind: a number k has the limit of its class, "`f` with a digit above 2 or above n is refusal 4", and "`K` is for
+-- `table` only; with `table2` it is refusal 1"
 abbrev pub kindRefusal : Family → ℕ → ℕ → Kind → ℕ
-kindRefusal family n m (Block k) = sizesRefusal n m k
+kindRefusal family n m (Mixed C k) = sizesRefusal n m (mostMixed C) k
 kindRefusal One n m Kronecker = tableRefusal n m
 kindRefusal Two n m Kronecker = 1
 
@@ -28,14 +31,14 @@ kindRefusal Two n m Kronecker = 1
 unfoldable pub designRefusal : Design → ℕ
 designRefusal d = kindRefusal (d .family) (d .n) (d .m) (d .kind)
 
--- "k mixed inputs (0 to 3, at most n)", where the kind of k is a number
+-- "k mixed inputs (0 to 3, at most n)", and in the free class 0 to 2, where the kind of k is a number
 abbrev pub KindSized : ℕ → Kind → Type 0
-KindSized n (Block k) = (k ≤ 3) × (k ≤ n)
+KindSized n (Mixed C k) = (k ≤ mostMixed C) × (k ≤ n)
 KindSized n Kronecker = Unit
 
 -- "`K` is for `table` only"
 abbrev pub KindFor : Family → Kind → Type 0
-KindFor family (Block k) = Unit
+KindFor family (Mixed C k) = Unit
 KindFor One Kronecker = Unit
 KindFor Two Kronecker = ⊥
 

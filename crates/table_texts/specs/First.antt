@@ -1,26 +1,29 @@
--- What the first line of a table text says, by its fields. Document 01, "Text in, listing out", and document 02, W-202 and W-203.
+-- What the first line of a table text says, by its fields. Document 01, "Text in, listing out", and document 02, W-202, W-203 and W-207.
 use mathlib.Core.Bool.{cond}
 use mathlib.Core.List.{List}
 use Prim.Native.Nat.{ℕ}
 use Rattle.expansions.specs.declared.families.Family.{Family}
 use Rattle.expansions.specs.declared.families.Family.the-variants.{One, Two}
+use Rattle.expansions.specs.declared.kinds.Class.the-variants.{Block}
 use Rattle.expansions.specs.declared.kinds.Kind.{Kind}
-use Rattle.expansions.specs.declared.kinds.Kind.the-variants.{Block, Kronecker}
+use Rattle.expansions.specs.declared.kinds.Kind.the-variants.{Mixed, Kronecker}
 use Rattle.listings.specs.Parts.{bytes, same, field}
 use Rattle.fields.specs.declared.values.Number.{Number}
-use Rattle.fields.specs.Fields.{andThen, oneDigit, familyOf, familyThen}
+use Rattle.fields.specs.declared.values.MixedRead.{MixedRead}
+use Rattle.fields.specs.Fields.{andThen, oneDigit, mixedSaid, mixedThen, familyOf, familyThen}
 use Rattle.table_texts.specs.declared.first.KindRead.{KindRead}
 use Rattle.table_texts.specs.declared.first.KindRead.the-variants as kind
 use Rattle.table_texts.specs.declared.first.FirstLine.{FirstLine}
 use Rattle.table_texts.specs.declared.first.FirstLine.the-variants as first
 
--- a digit k selects document 01's class with k mixed inputs
-abbrev pub digitKind : Number → KindRead
-digitKind x = andThen x kind.Wrong (λ k. kind.Is (Block k))
+-- a class with k mixed inputs, where a field says them
+abbrev pub mixedKind : MixedRead → KindRead
+mixedKind x = mixedThen x kind.Wrong (λ C k. kind.Is (Mixed C k))
 
--- "Each is one digit; k may be `-`, which means 1"; document 02: "A k field of `K` selects it", the Kronecker expansion
+-- "Each is one digit; k may be `-`, which means 1"; document 02: "A k field of `K` selects it", the Kronecker expansion, and "A k field of `f0`, `f1` or
+-- `f2` selects the free class", where "Digits keep the block class."
 unfoldable pub kindOf : List ℕ → KindRead
-kindOf f = cond (same f (bytes "-")) (kind.Is (Block 1)) (cond (same f (bytes "K")) (kind.Is Kronecker) (digitKind (oneDigit f)))
+kindOf f = cond (same f (bytes "-")) (kind.Is (Mixed Block 1)) (cond (same f (bytes "K")) (kind.Is Kronecker) (mixedKind (mixedSaid f)))
 
 -- what follows a kind that is read
 abbrev pub kindThen : KindRead → (Kind → FirstLine) → FirstLine

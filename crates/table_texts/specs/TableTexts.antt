@@ -6,10 +6,10 @@ use Prim.Native.Nat.{ℕ, _^_}
 use Rattle.numbers.specs.Bytes.{at}
 use Rattle.numbers.specs.Nonzero.{overNonzero}
 use Rattle.expansions.specs.declared.kinds.Kind.{Kind}
-use Rattle.expansions.specs.declared.kinds.Kind.the-variants.{Block, Kronecker}
+use Rattle.expansions.specs.declared.kinds.Kind.the-variants.{Mixed, Kronecker}
 use Rattle.table_texts.specs.declared.sizes.Design.{Design}
 use Rattle.listings.specs.Parts.{bytes}
-use Rattle.listings.specs.Listing.{line, decimal, outputBytes}
+use Rattle.listings.specs.Listing.{line, decimal, outputBytes, mixedField}
 use Rattle.table_texts.specs.First.{tableWord}
 
 -- "`on`, point, outputs": the point p with the outputs o, of m outputs
@@ -21,9 +21,9 @@ pointLine m p o = line (bytes "on") (decimal p ∷ outputBytes m o ∷ [])
 abbrev pub pointLines : ℕ → (ℕ → ℕ) → ℕ → List ℕ
 pointLines m f N = overNonzero (λ p. pointLine m p (f p)) f N
 
--- "Each is one digit", and "A k field of `K`": the characters for the kind of k
+-- "Each is one digit", "A k field of `K`", and "A k field of `f0`, `f1` or `f2`": the characters for the kind of k
 unfoldable pub kindField : Kind → List ℕ
-kindField (Block k) = decimal k
+kindField (Mixed C k) = mixedField C k
 kindField Kronecker = bytes "K"
 
 -- "`table`, n, m, k": the first line with the family's word and the given characters for k
@@ -34,7 +34,7 @@ designLine d k = line (tableWord (d .family)) (decimal (d .n) ∷ decimal (d .m)
 unfoldable pub textWith : List ℕ → Design → List ℕ → List ℕ
 textWith k d t = designLine d k ++ pointLines (d .m) (at t) (2 ^ d .n) ++ line (bytes "end") []
 
--- the text with the digit k or `K`
+-- the text with the characters of its kind of k
 unfoldable pub tableText : Design → List ℕ → List ℕ
 tableText d t = textWith (kindField (d .kind)) d t
 

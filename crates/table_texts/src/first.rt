@@ -2,8 +2,11 @@
 // the grammar is refused first.
 use crate::sizes::Design;
 use expansions::families::Family;
+use expansions::kinds::Class;
 use expansions::kinds::Kind;
+use fields::values::MixedRead;
 use fields::values::Number;
+use fields::values::mixed_of;
 use fields::values::one_digit;
 use fields::words::FamilyRead;
 use fields::words::family_of;
@@ -24,19 +27,19 @@ pub enum FirstLine {
     Wrong,
 }
 
-// The field k: a digit, `-` for 1, or `K` for the Kronecker expansions.
+// The field k: a digit, `f` and a digit for the free class, `-` for 1, or `K` for the Kronecker expansions.
 fn kind_of(field: &[u8]) -> KindRead
     ensures { λ r. ⌜ r ≡ kindOf (now (field .entry)) ⌝ }
 {
     if same(field, b"-") {
-        return KindRead::Is(Kind::Block(1));
+        return KindRead::Is(Kind::Mixed(Class::Block, 1));
     }
     if same(field, b"K") {
         return KindRead::Is(Kind::Kronecker);
     }
-    match one_digit(field) {
-        Number::Is(k) => KindRead::Is(Kind::Block(k)),
-        Number::Wrong => KindRead::Wrong,
+    match mixed_of(field) {
+        MixedRead::Is { class, k } => KindRead::Is(Kind::Mixed(class, k)),
+        MixedRead::Wrong => KindRead::Wrong,
     }
 }
 

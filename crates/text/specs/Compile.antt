@@ -13,16 +13,17 @@ use Rattle.text.specs.declared.compile.Compiled.{Compiled}
 use Rattle.text.specs.declared.compile.Compiled.the-variants.{Written, Refused}
 use Rattle.expansions.specs.declared.families.Family.{Family}
 use Rattle.expansions.specs.declared.kinds.Kind.{Kind}
-use Rattle.expansions.specs.declared.kinds.Kind.the-variants.{Block, Kronecker}
+use Rattle.expansions.specs.declared.kinds.Kind.the-variants.{Mixed, Kronecker}
 use Rattle.table_texts.specs.declared.sizes.Design.{Design}
 use Rattle.table_texts.specs.Read.{Reading, given, refused, reading}
 use Rattle.listings.specs.Listing.{listing}
 use Rattle.listings.specs.Meaning.{IsListing}
 use Rattle.listing_writing.specs.Write.{recordListing}
 
--- the listing of the family's answer for a table, by the kind of k: of document 01's class, or of document 02's Kronecker expansions
+-- the listing of the family's answer for a table, by the kind of k: of a class with k mixed inputs, document 01's or document 02's free class,
+-- "the listing repeats that field", or of the Kronecker expansions
 abbrev pub kindListing : Family → ℕ → ℕ → Kind → List ℕ → List ℕ
-kindListing family n m (Block k) table = listing family n m k (answerExpansion family n k (at table))
+kindListing family n m (Mixed C k) table = listing C family n m k (answerExpansion C family n k (at table))
 kindListing family n m Kronecker table = recordListing n m (answerKronecker n (at table))
 
 -- the listing of the answer for a table of the design d

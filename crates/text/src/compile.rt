@@ -15,7 +15,7 @@ use table_texts::sizes::Sizes;
 ghost use mathlib.Core.Path.{_≡_};
 ghost use lib.ListN.{length};
 ghost use Rattle.table_texts.specs.Read.{given};
-ghost use Rattle.table_texts.specs.Design.{blockDesign, kroneckerDesign};
+ghost use Rattle.table_texts.specs.Design.{mixedDesign, kroneckerDesign};
 ghost use Rattle.listing_writing.specs.Write.{WriteListing};
 ghost use Rattle.text.specs.Compile.{answerListing, compiled, bufferAfter, Compile};
 ghost use Rattle.table_texts.specs.Accepted.{Accepted};
@@ -26,18 +26,19 @@ pub enum Compiled {
     Refused { number: usize, line: usize },
 }
 
-// Finds the cheapest member of document 01's class, and writes its listing.
-fn write_block(sizes: Sizes, table: &[u8], output: &mut [u8]) -> Listed
-    requires { ⌜ Accepted (blockDesign sizes) (now table) ⌝ }
-    ensures { λ r. ⌜ WriteListing (answerListing (blockDesign sizes) (now (table .entry))) (now (output .entry)) r (now (output .exit)) ⌝ }
+// Finds the cheapest expansion of a class with k mixed inputs, and writes its listing.
+fn write_mixed(sizes: Sizes, table: &[u8], output: &mut [u8]) -> Listed
+    requires { ⌜ Accepted (mixedDesign sizes) (now table) ⌝ }
+    ensures { λ r. ⌜ WriteListing (answerListing (mixedDesign sizes) (now (table .entry))) (now (output .entry)) r (now (output .exit)) ⌝ }
 {
     let n = sizes.n;
     let m = sizes.m;
+    let class = sizes.class;
     let k = sizes.k;
     let family = sizes.family;
     let size: usize = 1 << n;
-    let answer = find_answer(family, n, m, k, &table[..size]);
-    write_listing(family, n, m, k, answer, output)
+    let answer = find_answer(class, family, n, m, k, &table[..size]);
+    write_listing(class, family, n, m, k, answer, output)
 }
 
 // Finds the cheapest Kronecker expansion, and writes its listing.
@@ -60,7 +61,16 @@ fn write_answer(design: Design, table: &[u8], output: &mut [u8]) -> Listed
     let kind = design.kind;
     let family = design.family;
     match kind {
-        Kind::Block(k) => write_block(Sizes { n, m, k, family }, table, output),
+        Kind::Mixed(class, k) => {
+            let sizes = Sizes {
+                n,
+                m,
+                class,
+                k,
+                family,
+            };
+            write_mixed(sizes, table, output)
+        }
         Kind::Kronecker => write_kind(n, m, table, output),
     }
 }

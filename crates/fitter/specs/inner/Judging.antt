@@ -18,6 +18,6 @@ judgedRecord z table r =
     let e = r .expansion in
     cond
     (legalPair (z .n) (z .k) (e .mixed) (e .fixed)
-    && every (2 ^ z .n) (showsBack (z .n) (e .mixed) (e .fixed) (at (e .blocks)) (at (r .complements)) (at (e .coefficients))))
+    && every (2 ^ z .n) (showsBack (z .class) (z .n) (z .k) (e .mixed) (e .fixed) (at (e .blocks)) (at (r .complements)) (at (e .coefficients))))
     (compared (firstDifference (z .n) (invertedValue (z .n) (at (r .complements)) (at (e .coefficients)) (e .inverted)) (at table)))
     NotOfClass

@@ -14,7 +14,7 @@ use Rattle.search.proofs.expansion.Answer.{answerExpansion-is, expansion-coeffi
 use Rattle.expansions.specs.declared.families.Family.{Family}
 use Rattle.expansions.specs.declared.families.Family.the-variants.{One, Two}
 use Rattle.expansions.specs.declared.kinds.Kind.{Kind}
-use Rattle.expansions.specs.declared.kinds.Kind.the-variants.{Block, Kronecker}
+use Rattle.expansions.specs.declared.kinds.Kind.the-variants.{Mixed, Kronecker}
 use Rattle.kronecker.proofs.expansion.Answer.{answerKronecker-is, answerKronecker-literals-le, kronecker-coefficients-lt}
 use Rattle.table_texts.specs.declared.sizes.Design.{Design}
 use Rattle.table_texts.specs.Design.{KindSized, KindFor}
@@ -38,11 +38,11 @@ pub answer-listing : (d : Design) (table : List ℕ) → Accepted d table → Is
 unfolding answerListing
 answer-listing d table a = go (d .family) (d .kind) (a .sized .mixed) (a .sized .family) where
   go : (F : Family) (x : Kind) → KindSized (d .n) x → KindFor F x → IsListing (d .n) F x (at table) (kindListing F (d .n) (d .m) x table)
-  go F (Block k) s _ =
-      let minimal = answerExpansion-is F (d .n) k (at table) (a .sized .inputs .1) (s .1) (table-bytes (d .n) (d .m) table (table-sized d (a .sized)) (a .table)) in
-      let mask = expansion-inverted-lt F (d .n) k (at table) (a .sized .inputs .1) (d .m) (s .1) (λ p h. a .table .small p) in
-      let small = expansion-coefficients-lt F (d .n) k (at table) (a .sized .inputs .1) (d .m) (s .1) (λ p h. a .table .small p) in
-      answer-listed F (d .n) (d .m) k (answerExpansion F (d .n) k (at table)) (at table) (a .sized .inputs .1) (a .sized .outputs .1) (s .0) minimal mask
+  go F (Mixed C k) s _ =
+      let minimal = answerExpansion-is C F (d .n) k (at table) (a .sized .inputs .1) (s .1) (table-bytes (d .n) (d .m) table (table-sized d (a .sized)) (a .table)) in
+      let mask = expansion-inverted-lt C F (d .n) k (at table) (a .sized .inputs .1) (d .m) (s .1) (λ p h. a .table .small p) in
+      let small = expansion-coefficients-lt C F (d .n) k (at table) (a .sized .inputs .1) (d .m) (s .1) (λ p h. a .table .small p) in
+      answer-listed C F (d .n) (d .m) k (answerExpansion C F (d .n) k (at table)) (at table) (a .sized .inputs .1) (a .sized .outputs .1) (s .0) minimal mask
       (λ t l. small t)
   go One Kronecker s _ =
       let minimal = answerKronecker-is (d .n) (at table) (a .sized .inputs .1) in

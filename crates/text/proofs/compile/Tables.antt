@@ -1,5 +1,5 @@
--- A table that was read, minimised and written: the searches hand up its answer (`searched-block`, `searched-kind`), the answer can be written
--- (`block-listable`, `kind-listable`), and what the writer leaves is what the text call owes (`compiled-answer`, `compiled-bytes`).
+-- A table that was read, minimised and written: the searches hand up its answer (`searched-mixed`, `searched-kind`), the answer can be written
+-- (`mixed-listable`, `kind-listable`), and what the writer leaves is what the text call owes (`compiled-answer`, `compiled-bytes`).
 use mathlib.Core.Path.{_≡_, refl, ap, subst, _∙_}
 use mathlib.Core.Bool.{Bool, true, false, cond}
 use mathlib.Core.List.{List}
@@ -15,7 +15,9 @@ use Rattle.numbers.specs.Refusals.{TableSized, Sized}
 use Rattle.numbers.proofs.Shifts.{one-shifted}
 use Rattle.numbers.proofs.Tests.{same-test}
 use Rattle.numbers.proofs.refusals.Outputs.{below-from}
+use Rattle.expansions.specs.declared.kinds.Class.{Class}
 use Rattle.expansions.specs.declared.families.Family.{Family}
+use Rattle.expansions.specs.Classes.{mostMixed}
 use Rattle.search.specs.Expansion.{answerExpansion, searched}
 use Rattle.search.proofs.expansion.Answer.{answerExpansion-is, answerExpansion-ext}
 use Rattle.search.proofs.answer.Searchable.{searched-answer}
@@ -64,9 +66,10 @@ module _ (n m : ℕ) (table : List ℕ) (s : TableSized n m) (t : Table n m tabl
       go p (no h) = rw (List·getD-eq-default part 0 {n = p} (omega (arith, part-long))) (pow-pos m)
 
   -- the searches hand up the answer of the whole table
-  pub searched-block : (F : Family) (k : ℕ) → Sized n m k → searched F n m k (take (1 * 2 ^ n % 2 ^ 64) table) ≡ answerExpansion F n k (at table)
+  pub searched-mixed : (C : Class) (F : Family) (k : ℕ) → Sized n m (mostMixed C) k
+      → searched C F n m k (take (1 * 2 ^ n % 2 ^ 64) table) ≡ answerExpansion C F n k (at table)
   unfolding part
-  searched-block F k z = searched-answer F n m k part z part-long part-clean ∙ answerExpansion-ext F n k (at part) (at table) part-at
+  searched-mixed C F k z = searched-answer C F n m k part z part-long part-clean ∙ answerExpansion-ext C F n k (at part) (at table) part-at
 
   pub searched-kind : searchedKronecker n m (take (1 * 2 ^ n % 2 ^ 64) table) ≡ answerKronecker n (at table)
   unfolding part
@@ -76,10 +79,10 @@ module _ (n m : ℕ) (table : List ℕ) (s : TableSized n m) (t : Table n m tabl
   pub table-bytes : (p : ℕ) → p < 2 ^ n → at table p < 2 ^ 8
   table-bytes p h = omega (arith, t .small p, pow-mono {i = m} {j = 8} (s .outputs .1))
 
-  pub block-listable : (F : Family) (k : ℕ) → Sized n m k → Listable n m (answerExpansion F n k (at table))
-  block-listable F k z =
-      answer-listable F n m k _ (at table) (s .inputs .1) (s .outputs .1) (z .mixed .0)
-      (answerExpansion-is F n k (at table) (s .inputs .1) (z .mixed .1) table-bytes)
+  pub mixed-listable : (C : Class) (F : Family) (k : ℕ) → Sized n m (mostMixed C) k → Listable n m (answerExpansion C F n k (at table))
+  mixed-listable C F k z =
+      answer-listable C F n m k _ (at table) (s .inputs .1) (s .outputs .1) (z .mixed .0)
+      (answerExpansion-is C F n k (at table) (s .inputs .1) (z .mixed .1) table-bytes)
 
   pub kind-listable : KroneckerListable n m (answerKronecker n (at table))
   kind-listable =

@@ -14,7 +14,7 @@ use Rattle.search.specs.Expansion.{answerExpansion}
 use Rattle.numbers.proofs.Tables.{drop-zeros}
 use Rattle.search.proofs.expansion.Answer.{answerExpansion-is}
 use Rattle.expansions.specs.declared.kinds.Kind.{Kind}
-use Rattle.expansions.specs.declared.kinds.Kind.the-variants.{Block, Kronecker}
+use Rattle.expansions.specs.declared.kinds.Kind.the-variants.{Mixed, Kronecker}
 use Rattle.table_texts.specs.declared.sizes.Design.{Design}
 use Rattle.table_texts.specs.Design.{KindSized}
 use Rattle.text.specs.declared.compile.Compiled.{Compiled}
@@ -27,12 +27,14 @@ use Rattle.text.specs.Compile.{kindListing, answerListing, compiled, buf
 use Rattle.text.specs.Print.{judged, refusedLine, printedFor, printed, Print}
 use Rattle.table_texts.proofs.Design.{table-sized}
 use Rattle.table_texts.proofs.read.Accepted.{reading-accepted}
+use Rattle.expansions.proofs.Classes.{most-three}
 use Rattle.listings.proofs.Lengths.{length-formWord}
-use Rattle.listings.proofs.Longest.{listing-longest}
+use Rattle.listings.proofs.Longest.{answer-longest}
 use Rattle.listings.proofs.Kronecker.{kronecker-longest}
 use Rattle.kronecker.proofs.expansion.Answer.{answerKronecker-is}
 use Rattle.table_texts.proofs.Length.{accepted-text-first}
 use Rattle.writing.proofs.Puts.{put-front}
+use Rattle.listing_writing.proofs.FirstLine.{length-mixedMark}
 use Rattle.text.proofs.compile.Tables.{table-bytes}
 use Rattle.text.proofs.compile.Listings.{answer-listing}
 use Rattle.text.proofs.print.Refusals.{refusal-said, refused-line-le}
@@ -43,11 +45,13 @@ listing-within : (d : Design) (table : List ℕ) → Accepted d table → length
 unfolding answerListing
 listing-within d table a = go (d .kind) (a .sized .mixed) where
   go : (x : Kind) → KindSized (d .n) x → length (kindListing (d .family) (d .n) (d .m) x table) ≤ 5919
-  go (Block k) s =
+  go (Mixed C k) s =
+      let e = answerExpansion C (d .family) (d .n) k (at table) in
       let bytes = table-bytes (d .n) (d .m) table (table-sized d (a .sized)) (a .table) in
-      let most = listing-longest (d .family) (d .n) (d .m) k (answerExpansion (d .family) (d .n) k (at table)) (at table) (a .sized .inputs .1) (a .sized .outputs .1) (s .0)
-      (answerExpansion-is (d .family) (d .n) k (at table) (a .sized .inputs .1) (s .1) bytes) (s .1) bytes in
-      omega (arith, most, length-formWord (d .family))
+      let minimal = answerExpansion-is C (d .family) (d .n) k (at table) (a .sized .inputs .1) (s .1) bytes in
+      let few : k ≤ 3 = omega (arith, s .0, most-three C) in
+      let most = answer-longest C (d .family) (d .n) (d .m) k e (at table) (a .sized .inputs .1) (a .sized .outputs .1) few (s .1) bytes minimal in
+      omega (arith, most, length-formWord (d .family), length-mixedMark C)
   go Kronecker s =
       kronecker-longest (d .n) (d .m) _ _ _ _ (a .sized .inputs .1) (a .sized .outputs .1)
       (answerKronecker-is (d .n) (at table) (a .sized .inputs .1) .products-counted)

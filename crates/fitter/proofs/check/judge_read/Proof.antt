@@ -2,7 +2,8 @@
 use mathlib.Core.Path.{sym, _∙_}
 use borrow.Author.Tests.{not-true, not-false}
 use Rattle.fitter.specs.inner.Judging.{judgedRecord}
-use Rattle.fitter.proofs.Judging.{legal-mixed, legal-fixed, found-at, found-nowhere}
+use Rattle.membership.proofs.Class.{legal-pair}
+use Rattle.fitter.proofs.Judging.{found-at, found-nowhere}
 use borrow.Author.Needs.{needs}
 use Rattle.fitter.proofs.check.judge_read.Statement.{statement}
 use Rattle.fitter.proofs.check.judge_read.Tie as tie
@@ -19,8 +20,8 @@ returns c =
 all-show-back-requires : tie.Need-all-show-back-requires
 all-show-back-requires c κs =
     let e = c .before .before .before in
-    let legal = sym (e .before .legal-pair .ensures) ∙ not-false _ (e .if1 .left) in
-    (e .before .before .before .before .before .before .pre, legal-mixed _ _ _ _ legal, legal-fixed _ _ _ _ legal)
+    let pair = legal-pair _ _ _ _ (sym (e .before .legal-pair .ensures) ∙ not-false _ (e .if1 .left)) in
+    (e .before .before .before .before .before .before .pre, pair .mask, pair .fixed)
 
 returns-2 : tie.Need-returns-2
 unfolding judgedRecord

@@ -22,7 +22,7 @@ unfolding showsBack
 returns-2 c =
     let s = c .before .before .before in
     let a = s .args in
-    let polarity = c .before .term-polarity .ensures ∙ termPolarity-fits _ _ _ _ (a .t) (s .pre .0) (s .pre .1) (s .pre .2) in
+    let polarity = c .before .term-polarity .ensures ∙ termPolarity-fits _ _ _ _ _ _ (a .t) (s .pre .0) (s .pre .1) (s .pre .2) in
     rw (ne-eqb _ _ (c .before .before .if1 .left), ← polarity, ← c .wide .ensures .0)
 
 pub shows-back-spec : {M : Type 1} → statement M

@@ -41,32 +41,35 @@ read-number-requires-2 c κs = search needs
 field-requires-3 : tie.Need-field-requires-3
 field-requires-3 c κs = search needs
 
-read-number-requires-3 : tie.Need-read-number-requires-3
-read-number-requires-3 c κs = search needs
+mixed-of-requires : tie.Need-mixed-of-requires
+mixed-of-requires c κs = search needs
+
+sizes-of-requires : tie.Need-sizes-of-requires
+sizes-of-requires c κs = search needs
 
 field-requires-4 : tie.Need-field-requires-4
 field-requires-4 c κs = search needs
 
-read-number-requires-4 : tie.Need-read-number-requires-4
-read-number-requires-4 c κs = search needs
+read-number-requires-3 : tie.Need-read-number-requires-3
+read-number-requires-3 c κs = search needs
 
 field-requires-5 : tie.Need-field-requires-5
 field-requires-5 c κs = search needs
 
-read-number-requires-5 : tie.Need-read-number-requires-5
-read-number-requires-5 c κs = search needs
+read-number-requires-4 : tie.Need-read-number-requires-4
+read-number-requires-4 c κs = search needs
 
 field-requires-6 : tie.Need-field-requires-6
 field-requires-6 c κs = search needs
 
-read-number-requires-6 : tie.Need-read-number-requires-6
-read-number-requires-6 c κs = search needs
+read-number-requires-5 : tie.Need-read-number-requires-5
+read-number-requires-5 c κs = search needs
 
 field-requires-7 : tie.Need-field-requires-7
 field-requires-7 c κs = search needs
 
-read-number-requires-7 : tie.Need-read-number-requires-7
-read-number-requires-7 c κs = search needs
+read-number-requires-6 : tie.Need-read-number-requires-6
+read-number-requires-6 c κs = search needs
 
 form-of-requires : tie.Need-form-of-requires
 form-of-requires c κs = search needs
@@ -74,25 +77,26 @@ form-of-requires c κs = search needs
 returns-2 : tie.Need-returns-2
 unfolding firstLine formWord bytes
 returns-2 c =
-    let h = c .before .before .before .before .before .before .before .before .before .before .before .before .before .before .before .before in
+    let sizes = c .before .before .before .before .before .before .before .before .before in
     c .form-of .ensures
     ∙ rw (
-      ← h .before .before .family-of .ensures,
-      h .family .given .1,
-      ← c .before .before .before .before .before .before .before .before .before .before .before .before .before .before .field .ensures,
-      ← c .before .before .before .before .before .before .before .before .before .before .before .before .before .read-number .ensures,
-      ← c .before .before .before .before .before .before .before .before .before .before .before .before .field2 .ensures,
-      ← c .before .before .before .before .before .before .before .before .before .before .before .read-number2 .ensures,
-      ← c .before .before .before .before .before .before .before .before .before .before .field3 .ensures,
-      ← c .before .before .before .before .before .before .before .before .before .read-number3 .ensures,
+      ← sizes .before .before .before .before .before .before .before .before .before .before .family-of .ensures,
+      sizes .before .before .before .before .before .before .before .before .family .given .1,
+      ← sizes .before .before .before .before .before .before .field .ensures,
+      ← sizes .before .before .before .before .before .read-number .ensures,
+      ← sizes .before .before .before .before .field2 .ensures,
+      ← sizes .before .before .before .read-number2 .ensures,
+      ← sizes .before .before .field3 .ensures,
+      ← sizes .before .mixed-of .ensures,
+      ← sizes .sizes-of .ensures,
       ← c .before .before .before .before .before .before .before .before .field4 .ensures,
-      ← c .before .before .before .before .before .before .before .read-number4 .ensures,
+      ← c .before .before .before .before .before .before .before .read-number3 .ensures,
       ← c .before .before .before .before .before .before .field5 .ensures,
-      ← c .before .before .before .before .before .read-number5 .ensures,
+      ← c .before .before .before .before .before .read-number4 .ensures,
       ← c .before .before .before .before .field6 .ensures,
-      ← c .before .before .before .read-number6 .ensures,
+      ← c .before .before .before .read-number5 .ensures,
       ← c .before .before .field7 .ensures,
-      ← c .before .read-number7 .ensures,
+      ← c .before .read-number6 .ensures,
     )
 
 pub first-line-spec : {M : Type 1} → statement M
@@ -110,14 +114,15 @@ first-line-spec =
     field-requires-2
     read-number-requires-2
     field-requires-3
-    read-number-requires-3
+    mixed-of-requires
+    sizes-of-requires
     field-requires-4
-    read-number-requires-4
+    read-number-requires-3
     field-requires-5
-    read-number-requires-5
+    read-number-requires-4
     field-requires-6
-    read-number-requires-6
+    read-number-requires-5
     field-requires-7
-    read-number-requires-7
+    read-number-requires-6
     form-of-requires
     returns-2)

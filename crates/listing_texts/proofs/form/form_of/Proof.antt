@@ -3,40 +3,35 @@ use borrow.Author.Needs.{needs}
 use Rattle.listing_texts.proofs.form.form_of.Statement.{statement}
 use Rattle.listing_texts.proofs.form.form_of.Tie as tie
 
-enum-known-n : tie.Need-enum-known-n
-enum-known-n c = search needs
+enum-known-sizes : tie.Need-enum-known-sizes
+enum-known-sizes c = search needs
 
 enum-told : tie.Need-enum-told
 enum-told c = search needs
 
 returns : tie.Need-returns
-returns c = rw (c .enum-told .given .1)
+returns c = search needs
 
-enum-known-m : tie.Need-enum-known-m
-enum-known-m c = search needs
+enum-known-mixed : tie.Need-enum-known-mixed
+enum-known-mixed c = search needs
 
 enum-told-2 : tie.Need-enum-told-2
 enum-told-2 c = search needs
 
 returns-2 : tie.Need-returns-2
-returns-2 c = rw (c .before .before .before .n .given .1, c .enum-told2 .given .1)
+returns-2 c = search needs
 
-enum-known-k : tie.Need-enum-known-k
-enum-known-k c = search needs
+enum-known-fixed : tie.Need-enum-known-fixed
+enum-known-fixed c = search needs
 
 enum-told-3 : tie.Need-enum-told-3
 enum-told-3 c = search needs
 
 returns-3 : tie.Need-returns-3
-returns-3 c =
-    rw (
-      c .before .before .before .before .before .before .n .given .1,
-      c .before .before .before .m .given .1,
-      c .enum-told3 .given .1,
-    )
+returns-3 c = rw (c .before .before .before .before .before .before .sizes .given .1, c .before .before .before .mixed .given .1, c .enum-told3 .given .1)
 
-enum-known-mixed : tie.Need-enum-known-mixed
-enum-known-mixed c = search needs
+enum-known-products : tie.Need-enum-known-products
+enum-known-products c = search needs
 
 enum-told-4 : tie.Need-enum-told-4
 enum-told-4 c = search needs
@@ -44,14 +39,14 @@ enum-told-4 c = search needs
 returns-4 : tie.Need-returns-4
 returns-4 c =
     rw (
-      c .before .before .before .before .before .before .before .before .before .n .given .1,
-      c .before .before .before .before .before .before .m .given .1,
-      c .before .before .before .k .given .1,
+      c .before .before .before .before .before .before .before .before .before .sizes .given .1,
+      c .before .before .before .before .before .before .mixed .given .1,
+      c .before .before .before .fixed .given .1,
       c .enum-told4 .given .1,
     )
 
-enum-known-fixed : tie.Need-enum-known-fixed
-enum-known-fixed c = search needs
+enum-known-literals : tie.Need-enum-known-literals
+enum-known-literals c = search needs
 
 enum-told-5 : tie.Need-enum-told-5
 enum-told-5 c = search needs
@@ -59,54 +54,17 @@ enum-told-5 c = search needs
 returns-5 : tie.Need-returns-5
 returns-5 c =
     rw (
-      c .before .before .before .before .before .before .before .before .before .before .before .before .n .given .1,
-      c .before .before .before .before .before .before .before .before .before .m .given .1,
-      c .before .before .before .before .before .before .k .given .1,
-      c .before .before .before .mixed .given .1,
+      c .before .before .before .before .before .before .before .before .before .before .before .before .sizes .given .1,
+      c .before .before .before .before .before .before .before .before .before .mixed .given .1,
+      c .before .before .before .before .before .before .fixed .given .1,
+      c .before .before .before .products .given .1,
       c .enum-told5 .given .1,
     )
-
-enum-known-products : tie.Need-enum-known-products
-enum-known-products c = search needs
-
-enum-told-6 : tie.Need-enum-told-6
-enum-told-6 c = search needs
 
 returns-6 : tie.Need-returns-6
 returns-6 c =
     rw (
-      c .before .before .before .before .before .before .before .before .before .before .before .before .before .before .before .n .given .1,
-      c .before .before .before .before .before .before .before .before .before .before .before .before .m .given .1,
-      c .before .before .before .before .before .before .before .before .before .k .given .1,
-      c .before .before .before .before .before .before .mixed .given .1,
-      c .before .before .before .fixed .given .1,
-      c .enum-told6 .given .1,
-    )
-
-enum-known-literals : tie.Need-enum-known-literals
-enum-known-literals c = search needs
-
-enum-told-7 : tie.Need-enum-told-7
-enum-told-7 c = search needs
-
-returns-7 : tie.Need-returns-7
-returns-7 c =
-    rw (
-      c .before .before .before .before .before .before .before .before .before .before .before .before .before .before .before .before .before .before .n .given .1,
-      c .before .before .before .before .before .before .before .before .before .before .before .before .before .before .before .m .given .1,
-      c .before .before .before .before .before .before .before .before .before .before .before .before .k .given .1,
-      c .before .before .before .before .before .before .before .before .before .mixed .given .1,
-      c .before .before .before .before .before .before .fixed .given .1,
-      c .before .before .before .products .given .1,
-      c .enum-told7 .given .1,
-    )
-
-returns-8 : tie.Need-returns-8
-returns-8 c =
-    rw (
-      c .before .before .before .before .before .before .before .before .before .before .before .before .before .before .before .before .before .before .before .n .given .1,
-      c .before .before .before .before .before .before .before .before .before .before .before .before .before .before .before .before .m .given .1,
-      c .before .before .before .before .before .before .before .before .before .before .before .before .before .k .given .1,
+      c .before .before .before .before .before .before .before .before .before .before .before .before .before .sizes .given .1,
       c .before .before .before .before .before .before .before .before .before .before .mixed .given .1,
       c .before .before .before .before .before .before .before .fixed .given .1,
       c .before .before .before .before .products .given .1,
@@ -117,25 +75,19 @@ pub form-of-spec : {M : Type 1} → statement M
 form-of-spec =
     tie.close
     (tie.spec
-    enum-known-n
+    enum-known-sizes
     enum-told
     returns
-    enum-known-m
+    enum-known-mixed
     enum-told-2
     returns-2
-    enum-known-k
+    enum-known-fixed
     enum-told-3
     returns-3
-    enum-known-mixed
+    enum-known-products
     enum-told-4
     returns-4
-    enum-known-fixed
+    enum-known-literals
     enum-told-5
     returns-5
-    enum-known-products
-    enum-told-6
-    returns-6
-    enum-known-literals
-    enum-told-7
-    returns-7
-    returns-8)
+    returns-6)

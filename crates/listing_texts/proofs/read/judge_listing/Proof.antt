@@ -9,7 +9,7 @@ use lib.Seq.{length-take-le}
 use Rattle.listings.specs.inner.Stops.{stop}
 use Rattle.listings.proofs.Parts.{stop-le}
 use Rattle.listing_texts.specs.inner.Judging.{standsFor}
-use Rattle.listing_texts.proofs.Exactness.{alike-sizes}
+use Rattle.listing_texts.proofs.Compared.{alike-sizes}
 use Rattle.listing_texts.proofs.read.Steps.{listing-unfinished, listing-judged}
 use Rattle.listing_texts.proofs.read.judge_listing.Statement.{statement}
 use Rattle.listing_texts.proofs.read.judge_listing.Tie as tie

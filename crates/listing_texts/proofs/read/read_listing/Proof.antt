@@ -2,6 +2,7 @@
 use mathlib.Core.Path.{sym, ap, _∙_}
 use native.Mathlib.Omega.{arith}
 use Rattle.numbers.proofs.Shifts.{points-le}
+use Rattle.expansions.proofs.Classes.{most-three}
 use Rattle.listing_texts.specs.Record.{handedUp}
 use Rattle.listing_texts.specs.inner.Judging.{standsFor}
 use Rattle.listing_texts.proofs.Exactness.{listing-read}
@@ -20,8 +21,12 @@ unfolding standsFor
 shown-listing-requires c κs =
     let call = c .before .before .before .before in
     let read = rw (c .before .before .form .given .1) at (call .judge-listing .ensures) in
-    let known = listing-read _ _ _ _ _ (sym read) in
-    (known .sized .inputs .1, omega (arith, known .mask, points-le _ (known .sized .outputs .1)), known .rows .small)
+    let known = listing-read _ _ _ _ _ (sym read) in (
+      known .sized .inputs .1,
+      omega (arith, known .sized .mixed .0, most-three (call .before .before .before .args .sizes .class)),
+      omega (arith, known .mask, points-le _ (known .sized .outputs .1)),
+      known .rows .small,
+    )
 
 enum-known-number : tie.Need-enum-known-number
 enum-known-number c = search needs

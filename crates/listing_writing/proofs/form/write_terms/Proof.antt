@@ -18,20 +18,21 @@ use Rattle.listing_writing.proofs.form.write_terms.Statement.{statement
 use Rattle.listing_writing.proofs.form.write_terms.Tie as tie
 
 abbrev Inv-loop : tie.InvT-loop
-Inv-loop out₀ n m mixed fixed coefficients blocks size place₀ t₀ out place t =
+Inv-loop class out₀ n m k mixed fixed coefficients blocks size place₀ t₀ out place t =
     (t ≤ 2 ^ n)
-    × Put out₀ (place₀ .at) (termLines n m (polarity n mixed fixed (at blocks)) (at coefficients) t) out (place .at)
+    × Put out₀ (place₀ .at) (termLines n m (polarity class n k mixed fixed (at blocks)) (at coefficients) t) out (place .at)
 
 abbrev μ-loop : tie.MeasureT-loop
-μ-loop out₀ n m mixed fixed coefficients blocks size place₀ t₀ out place t = 2 ^ n - t
+μ-loop class out₀ n m k mixed fixed coefficients blocks size place₀ t₀ out place t = 2 ^ n - t
 
 shl-size : tie.Need-shl-size Inv-loop μ-loop
 shl-size c = search needs
 
 -- the masks are of n inputs
 fits : (s : tie.Start Inv-loop μ-loop) (t : ℕ)
-    → termPolarity (s .args .n) (s .args .mixed) (s .args .fixed) (s .args .blocks .now) t ≡ polarity (s .args .n) (s .args .mixed) (s .args .fixed) (at (s .args .blocks .now)) t
-fits s t = termPolarity-fits _ _ _ _ t (s .pre .0 .0) (s .pre .0 .2) (s .pre .0 .3)
+    → let a = s .args in
+    termPolarity (a .class) (a .n) (a .k) (a .mixed) (a .fixed) (a .blocks .now) t ≡ polarity (a .class) (a .n) (a .k) (a .mixed) (a .fixed) (at (a .blocks .now)) t
+fits s t = termPolarity-fits _ _ _ _ _ _ t (s .pre .0 .0) (s .pre .0 .2) (s .pre .0 .3)
 
 loop-holds : tie.Need-loop-holds Inv-loop μ-loop
 unfolding overNonzero
@@ -51,7 +52,7 @@ write-term-requires c κs =
     let s = l .before .before in
     let a = s .args in
     let p = l .loop .inv .1 in
-    let w = polarity (a .n) (a .mixed) (a .fixed) (at (a .blocks .now)) in
+    let w = polarity (a .class) (a .n) (a .k) (a .mixed) (a .fixed) (at (a .blocks .now)) in
     let h : l .loop .t < 2 ^ a .n = omega (arith, c .before .before .before .loop-test .taken, one-shifted (a .n) (omega arith)) in
     let room = cubeLines-le (a .m) (λ t. cube (a .n) t (w t)) (at (a .coefficients .now)) (l .loop .t) (2 ^ a .n) h in (
       s .pre .0 .0,

@@ -1,4 +1,4 @@
--- `kind_of` meets its contract, by those of `same` and `one_digit`.
+-- `kind_of` meets its contract, by those of `same` and `mixed_of`.
 use borrow.Author.Needs.{needs}
 use Rattle.listings.specs.Parts.{bytes}
 use Rattle.table_texts.specs.First.{kindOf}
@@ -27,11 +27,11 @@ returns-2 c =
     let e = c .before .before .before in
     rw (← e .before .same .ensures, e .if1 .left, ← c .before .same2 .ensures, c .if2 .taken)
 
-one-digit-requires : tie.Need-one-digit-requires
-one-digit-requires c κs = search needs
+mixed-of-requires : tie.Need-mixed-of-requires
+mixed-of-requires c κs = search needs
 
-enum-known-k : tie.Need-enum-known-k
-enum-known-k c = search needs
+enum-known-class : tie.Need-enum-known-class
+enum-known-class c = search needs
 
 enum-told : tie.Need-enum-told
 enum-told c = search needs
@@ -47,8 +47,8 @@ returns-3 c =
       e .if1 .left,
       ← e2 .before .same2 .ensures,
       e2 .if2 .left,
-      ← call .one-digit .ensures,
-      c .before .k .given .1,
+      ← call .mixed-of .ensures,
+      c .before .class .given .1,
     )
 
 returns-4 : tie.Need-returns-4
@@ -62,7 +62,7 @@ returns-4 c =
       e .if1 .left,
       ← e2 .before .same2 .ensures,
       e2 .if2 .left,
-      ← call .one-digit .ensures,
+      ← call .mixed-of .ensures,
       c .enum-told .given .1,
     )
 
@@ -76,8 +76,8 @@ kind-of-spec =
     slice-aggregate-same-2
     same-requires-2
     returns-2
-    one-digit-requires
-    enum-known-k
+    mixed-of-requires
+    enum-known-class
     enum-told
     returns-3
     returns-4)

@@ -8,6 +8,9 @@ use Rattle.table_texts.proofs.sizes.judge_design.Tie as tie
 enum-known-kind : tie.Need-enum-known-kind
 enum-known-kind c = search needs
 
+most-mixed-requires : tie.Need-most-mixed-requires
+most-mixed-requires c κs = search needs
+
 judge-sizes-requires : tie.Need-judge-sizes-requires
 judge-sizes-requires c κs = search needs
 
@@ -25,7 +28,7 @@ enum-told-3 c = search needs
 
 returns : tie.Need-returns
 unfolding designRefusal
-returns c = c .judge-sizes .ensures ∙ rw (c .before .before .kind .given .1)
+returns c = c .judge-sizes .ensures ∙ rw (c .before .most-mixed .ensures, c .before .before .before .kind .given .1)
 
 returns-2 : tie.Need-returns-2
 unfolding designRefusal
@@ -40,6 +43,7 @@ judge-design-spec =
     tie.close
     (tie.spec
     enum-known-kind
+    most-mixed-requires
     judge-sizes-requires
     enum-told
     enum-told-2

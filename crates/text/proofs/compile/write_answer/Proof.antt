@@ -3,7 +3,7 @@ use borrow.Author.Needs.{needs}
 use mathlib.Core.Path.{sym, ap, subst}
 use Rattle.table_texts.specs.declared.sizes.Design.{Design}
 use Rattle.table_texts.specs.Accepted.{Accepted}
-use Rattle.table_texts.proofs.Design.{block-design, kronecker-design}
+use Rattle.table_texts.proofs.Design.{mixed-design, kronecker-design}
 use Rattle.text.specs.Compile.{answerListing}
 use Rattle.text.proofs.compile.Tables.{written-as}
 use Rattle.text.proofs.compile.write_answer.Statement.{statement}
@@ -12,10 +12,10 @@ use Rattle.text.proofs.compile.write_answer.Tie as tie
 enum-known-kind : tie.Need-enum-known-kind
 enum-known-kind c = search needs
 
-write-block-requires : tie.Need-write-block-requires
-write-block-requires c κs =
+write-mixed-requires : tie.Need-write-mixed-requires
+write-mixed-requires c κs =
     let s = c .before .before .before .before .before .before in
-    subst (λ (d : Design). Accepted d (s .args .table .now)) (block-design _ _ (c .before .before .kind .given .1)) (s .pre)
+    subst (λ (d : Design). Accepted d (s .args .table .now)) (mixed-design _ _ _ (c .before .before .kind .given .1)) (s .pre)
 
 enum-told : tie.Need-enum-told
 enum-told c = search needs
@@ -31,7 +31,7 @@ same-length c = search needs
 returns : tie.Need-returns
 returns c =
     let a = c .before .before .before .before .before .before .before .before .before .args in
-    written-as (ap (λ (d : Design). answerListing d (a .table .now)) (sym (block-design _ _ (c .before .before .before .before .before .kind .given .1)))) (c .before .before .write-block .ensures)
+    written-as (ap (λ (d : Design). answerListing d (a .table .now)) (sym (mixed-design _ _ _ (c .before .before .before .before .before .kind .given .1)))) (c .before .before .write-mixed .ensures)
 
 same-length-2 : tie.Need-same-length-2
 same-length-2 c = search needs
@@ -47,7 +47,7 @@ write-answer-spec =
     tie.close
     (tie.spec
     enum-known-kind
-    write-block-requires
+    write-mixed-requires
     enum-told
     write-kind-requires
     same-length

@@ -2,8 +2,8 @@
 use borrow.Author.Needs.{needs}
 use Rattle.listings.specs.Parts.{bytes}
 use Rattle.listings.specs.Listing.{formWord}
-use Rattle.listing_writing.proofs.form.word_length.Statement.{statement}
-use Rattle.listing_writing.proofs.form.word_length.Tie as tie
+use Rattle.listing_writing.proofs.first.word_length.Statement.{statement}
+use Rattle.listing_writing.proofs.first.word_length.Tie as tie
 
 enum-told : tie.Need-enum-told
 enum-told c = search needs
