@@ -38,10 +38,10 @@ extern "C" {
 /* The limits. */
 #define MIPALDOZ_MOST_INPUTS 8        /* n is 1 to 8 */
 #define MIPALDOZ_MOST_OUTPUTS 8       /* m is 1 to 8 */
-#define MIPALDOZ_MOST_MIXED 3         /* where k is a number it is 0 to 3, and at most n */
+#define MIPALDOZ_MOST_MIXED 3         /* k is 0 to 3, and at most n; with an `f` field it is 0 to 2 */
 #define MIPALDOZ_TABLE_BYTES 256      /* the table that the reading call fills; also 2^n at the largest n */
 #define MIPALDOZ_LONGEST_LISTING 5919 /* bytes: an output buffer of this length is never refused */
-#define MIPALDOZ_LONGEST_TEXT 4003    /* bytes: a longer text is never accepted */
+#define MIPALDOZ_LONGEST_TEXT 4004    /* bytes: a longer text is never accepted */
 
 /* How many numbers the answer of each call has. */
 #define MIPALDOZ_FORWARD_ANSWER 2
@@ -77,8 +77,9 @@ enum mipaldoz_answer {
 
 /* The kinds of k. */
 enum mipaldoz_kind {
-    MIPALDOZ_KIND_BLOCK = 1,    /* a number of mixed inputs: the text has a digit, or `-` for 1 */
-    MIPALDOZ_KIND_KRONECKER = 2 /* the text has `K`: Kronecker expansions */
+    MIPALDOZ_KIND_BLOCK = 1,     /* a number of mixed inputs: the text has a digit, or `-` for 1 */
+    MIPALDOZ_KIND_KRONECKER = 2, /* the text has `K`: Kronecker expansions */
+    MIPALDOZ_KIND_FREE = 3       /* a number of mixed inputs of the free class: the text has `f0`, `f1` or `f2` */
 };
 
 /* The families of parts. */
@@ -100,7 +101,7 @@ enum mipaldoz_refusal {
     MIPALDOZ_BAD_LINE = 1,      /* a line of the text breaks its grammar, as `K` with `table2` does */
     MIPALDOZ_BAD_INPUTS = 2,    /* n is not 1 to 8 */
     MIPALDOZ_BAD_OUTPUTS = 3,   /* m is not 1 to 8 */
-    MIPALDOZ_BAD_MIXED = 4,     /* k is a number above 3 or above n */
+    MIPALDOZ_BAD_MIXED = 4,     /* k is a number above 3, with an `f` field above 2, or above n */
     MIPALDOZ_BAD_POINT = 5,     /* a point is 2^n or more, or not above the one before */
     MIPALDOZ_BAD_END = 6,       /* the text stops where a line should begin and no `end` line has come, or bytes follow the `end` line */
     MIPALDOZ_BAD_POLARITY = 7,  /* w is 2^n or more */
@@ -148,7 +149,7 @@ void mipaldoz_backward(size_t n, size_t m, size_t w,
  * Takes a table and finds the member of the class with k mixed inputs and the inversion mask that give it with fewest products, then fewest
  * literals, then the least mask, then least M, then least i, then in each block the least block polarity. An output is the exclusive OR of
  * its terms, then inverted where the mask has its bit: inverters are free. This is the order of family one; a table of family two is
- * minimised by mipaldoz_compile.
+ * minimised by mipaldoz_compile, and so is the free class.
  *
  *   n, m, k        inputs, outputs, mixed inputs
  *   table          2^n bytes: bit o of byte p is output o at point p, whose bit 0 is x1; bits m to 7 are 0
@@ -185,12 +186,14 @@ void mipaldoz_read(const uint8_t *text, size_t text_length,
 
 /*
  * Reads a table text, finds the cheapest expansion and writes its listing into the front of `output`. Where the text begins with `table` and
- * k is a number the expansion is the one that mipaldoz_minimise finds, and the listing begins with `form`. Where the text begins with
+ * k is a digit the expansion is the one that mipaldoz_minimise finds, and the listing begins with `form`. Where the text begins with
  * `table2` it is the member of the class and the inversion mask with the least charge, 4 x products + literals, then fewest products, then
- * the least mask, then least M, then least i, then in each block the least block polarity; the listing begins with `form2`. The second line
- * of either listing is `inv` and the mask, a character for each output from output 0 on. Where the text has `K` it is the cheapest Kronecker
- * expansion: fewest products, then fewest literals, then the letters that come first from xn down, S before P before N; the listing begins
- * with `kron` and has no inverters. Bytes past the listing keep what they held, and no zero byte is written after it.
+ * the least mask, then least M, then least i, then in each block the least block polarity; the listing begins with `form2`. Where the text
+ * has an `f` field each term has its own polarity over M, in the place of one for its block, and equal costs go by mask, M, i and then the
+ * least polarity of term 0, 1, and so on; the listing repeats the field. The second line of each of these listings is `inv` and the mask, a
+ * character for each output from output 0 on. Where the text has `K` it is the cheapest Kronecker expansion: fewest products, then fewest
+ * literals, then the letters that come first from xn down, S before P before N; the listing begins with `kron` and has no inverters. Bytes
+ * past the listing keep what they held, and no zero byte is written after it.
  *
  *   text           any bytes, any length; no zero byte ends it
  *   output         as long as the listing or longer; MIPALDOZ_LONGEST_LISTING bytes are enough for every text
@@ -216,9 +219,9 @@ void mipaldoz_compile(const uint8_t *text, size_t text_length,
  *
  * Refusals, the first that applies: the text as in mipaldoz_read, 1 to 6 with the line in the text. Then line 1 of the listing: 11 where it
  * is broken, 12 where its family, n, m or k is not the table's: a `form` listing goes with a text that begins with `table`, a `form2` listing
- * with one that begins with `table2`. Then its later lines, one by one: 11 with the line; line 2 is the `inv` line. Then its counts: 12,
- * line 1. Where the k of the text is `K`, a `form` or `form2` listing is refused by 12 and any other by 11, each with line 1. A `kron`
- * listing is refused by 11, line 1, beside every text that is accepted.
+ * with one that begins with `table2`, and an `f` field with the same `f` field. Then its later lines, one by one: 11 with the line; line 2 is
+ * the `inv` line. Then its counts: 12, line 1. Where the k of the text is `K`, a `form` or `form2` listing is refused by 12 and any other by
+ * 11, each with line 1. A `kron` listing is refused by 11, line 1, beside every text that is accepted.
  */
 void mipaldoz_check(const uint8_t *text, size_t text_length,
                     const uint8_t *listing, size_t listing_length,

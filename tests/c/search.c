@@ -1,7 +1,9 @@
 /* The search by lanes, to time the minimising call and the text call beside it: the same method as
-   crates/search, in C. Byte o of word j is output o of block j, its bits the places of the block. rows[g] has
-   the coefficients of g under the eight polarities, a byte for each; it is computed once, by
-   block_search_prepare.
+   crates/search, in C. Byte o of word j is output o of block j, its bits the places of the block. A row has the
+   coefficients of a function under each choice that a block has, a byte for each, eight to a word. In the block
+   class a choice is one of the eight polarities. In the free class with two mixed inputs each place has its own
+   polarity, so there are sixteen choices: the bit of place 1, the bit of place 2 and the two bits of place 3, the
+   highest first. The rows are computed once, by block_search_prepare.
 
    A family is what a product and a literal weigh, so that the sum orders expansions as the family does: family
    one by products, then literals; family two by 4 x products + literals, then products.
@@ -13,8 +15,12 @@
 #include <stdint.h>
 
 enum { INPUTS = 8, OUTPUTS = 8, FUNCTIONS = 256, POLARITIES = 8, PLACES = 8, MASKS = 256 };
+enum { FREE_FUNCTIONS = 16, FREE_CHOICES = 16, FREE_PLACES = 4, WORDS = 2 };
 
 enum family { FAMILY_ONE = 1, FAMILY_TWO = 2 };
+
+/* The free class has two mixed inputs here: with fewer it has the answers of the block class. */
+enum class { BLOCK, FREE };
 
 /* Family one: a product 4096, a literal 1. Family two: a unit of the charge 512, and 1 for each product. */
 enum { PRODUCT = 4096, UNIT = 512 };
@@ -22,11 +28,50 @@ enum { PRODUCT = 4096, UNIT = 512 };
 static const uint8_t literals[8] = {0, 1, 1, 2, 1, 2, 2, 3};
 
 static uint64_t rows[FUNCTIONS];
+static uint64_t free_rows[FREE_FUNCTIONS][WORDS];
 
 static unsigned ones(unsigned set) { return (unsigned)__builtin_popcount(set); }
 
+/* The polarity of a place under a choice of the free class. */
+static unsigned own_polarity(unsigned choice, unsigned place)
+{
+    const unsigned polarities[FREE_PLACES] = {0, choice >> 3, (choice >> 2 & 1) << 1, choice & 3};
+    return polarities[place];
+}
+
+/* The coefficients of a function of two inputs under a choice, the largest place first. Each plain place that lacks
+   some of the complemented literals takes up the coefficient. */
+static unsigned own_coefficients(unsigned g, unsigned choice)
+{
+    unsigned digits = 0, found = 0;
+    for (unsigned t = 0; t < FREE_PLACES; t++)
+        for (unsigned p = 0; p < FREE_PLACES; p++)
+            if ((p & t) == p)
+                digits ^= (g >> p & 1) << t;
+    for (unsigned t = FREE_PLACES; t-- > 0;) {
+        unsigned complemented = t & own_polarity(choice, t);
+        if (digits >> t & 1) {
+            found |= 1u << t;
+            for (unsigned lacked = complemented; lacked != 0; lacked = (lacked - 1) & complemented)
+                digits ^= 1u << (t - lacked);
+        }
+    }
+    return found;
+}
+
+static void prepare_free_rows(void)
+{
+    for (unsigned g = 0; g < FREE_FUNCTIONS; g++)
+        for (unsigned word = 0; word < WORDS; word++) {
+            free_rows[g][word] = 0;
+            for (unsigned c = 0; c < 8; c++)
+                free_rows[g][word] |= (uint64_t)own_coefficients(g, 8 * word + c) << (8 * c);
+        }
+}
+
 void block_search_prepare(void)
 {
+    prepare_free_rows();
     for (unsigned g = 0; g < FUNCTIONS; g++) {
         rows[g] = 0;
         for (unsigned phi = 0; phi < POLARITIES; phi++)
@@ -101,8 +146,11 @@ static void expand(struct split *s, size_t n, unsigned mixed, const uint8_t *tab
         half_step(s, 1, input);
 }
 
+/* A step of the search is made anew for each family and class, which are constants in it. */
+#define STEP static inline __attribute__((always_inline))
+
 /* What products and literals weigh. */
-static inline uint32_t weigh(enum family family, uint32_t products, uint32_t count)
+STEP uint32_t weigh(enum family family, uint32_t products, uint32_t count)
 {
     return family == FAMILY_ONE ? products * PRODUCT + count : (4 * products + count) * UNIT + products;
 }
@@ -114,62 +162,86 @@ static void counts(enum family family, uint32_t weight, uint64_t *products, uint
     *count = family == FAMILY_ONE ? weight % PRODUCT : weight / UNIT - 4 * *products;
 }
 
-/* What the polarities of a block are compared by: 16 for each product and 1 for each literal within the mixed
+/* What the choices of a block are compared by: 16 for each product and 1 for each literal within the mixed
    inputs. In family one this is their order; in family two the literals outside weigh in it. */
-static inline uint32_t rank(enum family family, uint32_t sum, unsigned outside)
+STEP uint32_t rank(enum family family, uint32_t sum, unsigned outside)
 {
     return family == FAMILY_ONE ? sum : weigh(family, sum >> 4, (sum >> 4) * outside + (sum & 15));
 }
 
-/* The products and literals of a block under the eight polarities, 16 and 1 each, a byte for each polarity. Its
-   places count from `first` on. */
-static inline uint64_t sums_from(const struct split *s, unsigned j, unsigned first)
+/* A word of the row of output o of a block. */
+STEP uint64_t row(const struct split *s, enum class class, unsigned j, unsigned o, unsigned word)
+{
+    unsigned g = s->lanes[j] >> (8 * o) & 255;
+    return class == BLOCK ? rows[g] : free_rows[g & (FREE_FUNCTIONS - 1)][word];
+}
+
+/* How many words a row has, and how many choices a block has in each. */
+STEP unsigned words(enum class class) { return class == BLOCK ? 1 : WORDS; }
+
+STEP unsigned choices(const struct split *s, enum class class)
+{
+    return class == BLOCK ? 1u << s->inside : FREE_CHOICES / WORDS;
+}
+
+/* The products and literals of a block under eight choices, 16 and 1 each, a byte for each choice. Its places count
+   from `first` on. */
+STEP uint64_t sums_from(const struct split *s, enum class class, unsigned j, unsigned word, unsigned first)
 {
     uint64_t used = 0, sums = 0;
     for (unsigned o = 0; o < OUTPUTS; o++)
-        used |= rows[s->lanes[j] >> (8 * o) & 255];
-    for (unsigned t = first; t < PLACES; t++)
+        used |= row(s, class, j, o, word);
+    for (unsigned t = first; t < (class == BLOCK ? PLACES : FREE_PLACES); t++)
         sums += (used >> t & 0x0101010101010101u) * (16u + literals[t]);
     return sums;
 }
 
-/* The coefficient of place p of a block under a polarity. */
-static inline uint8_t coefficient(const struct split *s, unsigned j, unsigned phi, unsigned p)
+/* The coefficient of place p of a block under a choice. */
+STEP uint8_t coefficient(const struct split *s, enum class class, unsigned j, unsigned choice, unsigned p)
 {
     uint8_t byte = 0;
     for (unsigned o = 0; o < OUTPUTS; o++)
-        byte |= (uint8_t)((rows[s->lanes[j] >> (8 * o) & 255] >> (8 * phi + p) & 1) << o);
+        byte |= (uint8_t)((row(s, class, j, o, choice / 8) >> (8 * (choice % 8) + p) & 1) << o);
     return byte;
 }
 
-/* The least weight of block 0 without term 0, times 256, and the mask; and the least polarity that has it. */
-static inline uint32_t cheapest_first(const struct split *s, enum family family, uint8_t *chosen)
+/* The least weight of block 0 without term 0, times 256, and the mask; and the least choice that has it. */
+STEP uint32_t cheapest_first(const struct split *s, enum family family, enum class class, uint8_t *chosen)
 {
-    const uint64_t sums = sums_from(s, 0, 1);
     uint32_t least = UINT32_MAX;
-    for (unsigned phi = 0; phi < 1u << s->inside; phi++) {
-        uint32_t sum = sums >> (8 * phi) & 255;
-        uint32_t next = weigh(family, sum >> 4, sum & 15) * MASKS + coefficient(s, 0, phi, 0);
-        if (next < least) {
-            least = next;
-            *chosen = (uint8_t)phi;
+    for (unsigned word = 0; word < words(class); word++) {
+        const uint64_t sums = sums_from(s, class, 0, word, 1);
+        for (unsigned c = 0; c < choices(s, class); c++) {
+            uint32_t sum = sums >> (8 * c) & 255;
+            uint32_t next = weigh(family, sum >> 4, sum & 15) * MASKS + coefficient(s, class, 0, 8 * word + c, 0);
+            if (next < least) {
+                least = next;
+                *chosen = (uint8_t)(8 * word + c);
+            }
         }
     }
     return least;
 }
 
-/* The least weight of another block, times 256, and the least polarity that has it. */
-static inline uint32_t cheapest(const struct split *s, enum family family, unsigned j, uint8_t *chosen)
+/* The least weight of another block, times 256, and the least choice that has it. In the block class the first choice
+   is taken before the others are compared; in the free class, with a fixed number of them, that takes longer. */
+STEP uint32_t cheapest(const struct split *s, enum family family, enum class class, unsigned j, uint8_t *chosen)
 {
     const unsigned outside = ones(j);
-    const uint64_t sums = sums_from(s, j, 0);
-    uint32_t least = rank(family, sums & 255, outside);
-    *chosen = 0;
-    for (unsigned phi = 1; phi < 1u << s->inside; phi++) {
-        uint32_t next = rank(family, sums >> (8 * phi) & 255, outside);
-        if (next < least) {
-            least = next;
-            *chosen = (uint8_t)phi;
+    uint32_t least = UINT32_MAX;
+    for (unsigned word = 0; word < words(class); word++) {
+        const uint64_t sums = sums_from(s, class, j, word, 0);
+        const unsigned first = class == BLOCK;
+        if (first) {
+            least = rank(family, sums & 255, outside);
+            *chosen = 0;
+        }
+        for (unsigned c = first; c < choices(s, class); c++) {
+            uint32_t next = rank(family, sums >> (8 * c) & 255, outside);
+            if (next < least) {
+                least = next;
+                *chosen = (uint8_t)(8 * word + c);
+            }
         }
     }
     if (family == FAMILY_ONE)
@@ -177,15 +249,15 @@ static inline uint32_t cheapest(const struct split *s, enum family family, unsig
     return least * MASKS;
 }
 
-static void write_coefficients(const struct split *s, const uint8_t *blocks, uint8_t *coefficients)
+static void write_coefficients(const struct split *s, enum class class, const uint8_t *blocks, uint8_t *coefficients)
 {
     for (unsigned j = 0; j < s->blocks; j++)
         for (unsigned p = 0; p < 1u << s->inside; p++)
-            coefficients[spread(j, s->rest) | spread(p, s->mixed)] = coefficient(s, j, blocks[j], p);
+            coefficients[spread(j, s->rest) | spread(p, s->mixed)] = coefficient(s, class, j, blocks[j], p);
     coefficients[0] = 0;
 }
 
-static inline void search(enum family family, size_t n, size_t k, const uint8_t *table,
+STEP void search(enum family family, enum class class, size_t n, size_t k, const uint8_t *table,
                           uint8_t *coefficients, uint8_t *blocks, uint64_t *answer)
 {
     struct split s;
@@ -197,9 +269,9 @@ static inline void search(enum family family, size_t n, size_t k, const uint8_t 
             continue;
         expand(&s, n, mixed, table);
         for (unsigned polarity = 0; polarity < s.blocks; polarity++) {
-            uint32_t total = cheapest_first(&s, family, &chosen);
+            uint32_t total = cheapest_first(&s, family, class, &chosen);
             for (unsigned j = 1; j < s.blocks; j++)
-                total += cheapest(&s, family, j, &chosen);
+                total += cheapest(&s, family, class, j, &chosen);
             if (total < least) {
                 least = total;
                 best_mixed = mixed;
@@ -211,10 +283,10 @@ static inline void search(enum family family, size_t n, size_t k, const uint8_t 
     }
     expand(&s, n, best_mixed, table);
     turn(&s, best_polarity);
-    cheapest_first(&s, family, &blocks[0]);
+    cheapest_first(&s, family, class, &blocks[0]);
     for (unsigned j = 1; j < s.blocks; j++)
-        cheapest(&s, family, j, &blocks[j]);
-    write_coefficients(&s, blocks, coefficients);
+        cheapest(&s, family, class, j, &blocks[j]);
+    write_coefficients(&s, class, blocks, coefficients);
     answer[0] = answer[1] = 0;
     answer[2] = best_mixed;
     answer[3] = spread(best_polarity, s.rest);
@@ -222,13 +294,18 @@ static inline void search(enum family family, size_t n, size_t k, const uint8_t 
     answer[6] = least % MASKS;
 }
 
-/* The least expansion of the family that gives a sound table. The answer is number, line, M, i, products,
-   literals, the inversion mask. The family is a constant in each of the two. */
-void block_search(size_t family, size_t n, size_t k, const uint8_t *table, uint8_t *coefficients,
+/* The least expansion of the family that gives a sound table: of the block class with k mixed inputs, or of the free
+   class with two. The answer is number, line, M, i, products, literals, the inversion mask; `blocks` has the choice of
+   each block. The family and the class are constants in each of the four. */
+void block_search(size_t family, size_t is_free, size_t n, size_t k, const uint8_t *table, uint8_t *coefficients,
                   uint8_t *blocks, uint64_t *answer)
 {
-    if (family == FAMILY_ONE)
-        search(FAMILY_ONE, n, k, table, coefficients, blocks, answer);
+    if (family == FAMILY_ONE && is_free)
+        search(FAMILY_ONE, FREE, n, 2, table, coefficients, blocks, answer);
+    else if (family == FAMILY_ONE)
+        search(FAMILY_ONE, BLOCK, n, k, table, coefficients, blocks, answer);
+    else if (is_free)
+        search(FAMILY_TWO, FREE, n, 2, table, coefficients, blocks, answer);
     else
-        search(FAMILY_TWO, n, k, table, coefficients, blocks, answer);
+        search(FAMILY_TWO, BLOCK, n, k, table, coefficients, blocks, answer);
 }

@@ -2,13 +2,17 @@
 //! length in decimal digits, and in its `stdout`, with the listing of each text or its line `refused`,
 //! number, line. Both come from the evaluator.
 
+use crate::class::Class;
 use crate::family::Family;
 use crate::marked::families::{self, COMPARED, Compared, OUTPUTS};
-use crate::marked::{ACCEPTED, DESIGNS, Marked, REFUSED, bytes, kronecker};
+use crate::marked::{ACCEPTED, DESIGNS, Marked, REFUSED, bytes, free, kronecker};
 use crate::seeded::Seeded;
-use crate::seeded::tables::{any_table, longest_listing_table, random_table};
+use crate::seeded::tables::{
+    any_table, longest_free_listing_table, longest_listing_table, random_table,
+};
 use crate::seeded::texts::{
-    damaged_text, kronecker_text, sound_text_of, with_k_somewhere, with_other_word,
+    damaged_text, free_text_of, kronecker_text, sound_text_of, with_f_somewhere, with_k_somewhere,
+    with_other_k, with_other_word,
 };
 use crate::text::{Design, printed};
 
@@ -25,7 +29,8 @@ impl Cases {
         let mut seeded = Seeded::new(71);
         let block = [marked_texts(), sound_texts(&mut seeded), damaged_texts(&mut seeded)].concat();
         let kronecker = kronecker_texts(&mut Seeded::new(72));
-        let texts = [block, kronecker, family_texts(&mut Seeded::new(73))].concat();
+        let families = family_texts(&mut Seeded::new(73));
+        let texts = [block, kronecker, families, free_texts(&mut Seeded::new(74))].concat();
         let framed =
             |text: &Vec<u8>| [format!("{}\n", text.len()).into_bytes(), text.clone()].concat();
         Cases {
@@ -118,4 +123,42 @@ fn family_texts(seeded: &mut Seeded) -> Vec<Vec<u8>> {
         }
     }
     texts
+}
+
+/// Texts of the free class: the marked ones, the designs on which the classes differ, the longest listings, one for
+/// every n and `f` field in each family, and damaged ones.
+fn free_texts(seeded: &mut Seeded) -> Vec<Vec<u8>> {
+    let accepted = free::ACCEPTED.iter().map(|(text, _)| bytes(text));
+    let refused = free::REFUSED.iter().map(|(text, _, _)| bytes(text));
+    let mut texts: Vec<Vec<u8>> = accepted.chain(refused).collect();
+    let mut push = |n, m, class, family, table| {
+        texts.push(Design::of_class(n, m, class, table).of_family(family).text());
+    };
+    for free::Compared { n, m, table, .. } in free::COMPARED {
+        for (class, family) in classes_and_families(n) {
+            push(n, m, class, family, table.to_vec());
+        }
+    }
+    for family in Family::ALL {
+        push(8, 8, Class::Free(2), family, longest_free_listing_table());
+    }
+    for n in 1..=8 {
+        for (class, family) in classes_and_families(n) {
+            let m = seeded.within(1, 8);
+            push(n, m, class, family, any_table(seeded, n, m));
+        }
+    }
+    push(8, 8, Class::Free(2), Family::One, random_table(seeded, 8, 8));
+    for damage in [damaged_text, with_f_somewhere, with_other_k, with_other_word] {
+        for round in 0..60 {
+            let (_, text) = free_text_of(seeded, Family::ALL[round % 2], 4);
+            texts.push(damage(seeded, &text));
+        }
+    }
+    texts
+}
+
+/// The free class at every k that n inputs have, in each family.
+fn classes_and_families(n: usize) -> impl Iterator<Item = (Class, Family)> {
+    Class::every_free(n).flat_map(|class| Family::ALL.map(|family| (class, family)))
 }

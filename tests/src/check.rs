@@ -1,5 +1,5 @@
-//! The fitter's check, as document 02's W-201 to W-203 and W-205 give it: a listing is judged beside its table
-//! text.
+//! The fitter's check, as document 02's W-201 to W-203, W-205 and W-207 give it: a listing is judged beside its
+//! table text.
 
 use crate::calls::CheckAnswer;
 use crate::class::{Member, is_of_a_member};
@@ -36,21 +36,24 @@ pub fn check(text: &[u8], listing: &[u8]) -> Result<Verdict, Refusal> {
     Ok(differs.map_or(Verdict::Same, |point| Verdict::Differs { point }))
 }
 
-/// Whether some member with the listing's M and i prints its cubes. A member chooses the polarity of a
-/// block freely of the other blocks, so every polarity is tried for each block by itself.
+/// Whether some member with the listing's M and i prints its cubes. A member chooses each of its polarities over M
+/// freely of the others, so every polarity is tried for the products that share one by themselves: those of a block,
+/// and in the free class each product.
 fn of_the_class(listing: &Listing) -> bool {
-    let Listing { n, k, mixed, fixed, .. } = *listing;
-    if !is_of_a_member(n, k, mixed, fixed) {
+    let Listing { n, class, mixed, fixed, .. } = *listing;
+    if !is_of_a_member(n, class.k(), mixed, fixed) {
         return false;
     }
-    let with = |phi| Member { mixed, fixed, blocks: vec![phi; places(n - k)] };
-    let members: Vec<Member> = (0..places(k)).map(with).collect();
-    let mut blocks: BTreeMap<usize, Vec<&Product>> = BTreeMap::new();
+    let with =
+        |polarity| Member { class, mixed, fixed, polarities: vec![polarity; class.polarities(n)] };
+    let members: Vec<Member> = (0..places(class.k())).map(with).collect();
+    let mut sharing: BTreeMap<usize, Vec<&Product>> = BTreeMap::new();
     for product in &listing.products {
-        blocks.entry(members[0].block(n, product.term())).or_default().push(product);
+        let polarity = class.polarity_of(n, mixed, product.term());
+        sharing.entry(polarity).or_default().push(product);
     }
-    blocks.values().all(|block| {
-        members.iter().any(|member| block.iter().all(|product| prints(n, member, product)))
+    sharing.values().all(|products| {
+        members.iter().any(|member| products.iter().all(|product| prints(n, member, product)))
     })
 }
 
@@ -94,8 +97,8 @@ mod tests {
     /// Document 02's sentences, said over every member with the listing's M and i and every mask: the cubes are
     /// those of no member, or some member that gives the table prints just those lines.
     fn said_over_members(design: &Design, listing: &Listing) -> [bool; 2] {
-        let Listing { n, k, mixed, fixed, .. } = *listing;
-        let members = members_with(n, k, mixed, fixed);
+        let Listing { n, class, mixed, fixed, .. } = *listing;
+        let members = members_with(n, class, mixed, fixed);
         let cubes =
             |member: &Member| listing.products.iter().all(|product| prints(n, member, product));
         let none = !members.iter().any(cubes);

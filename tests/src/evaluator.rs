@@ -87,6 +87,20 @@ pub fn forward(n: usize, w: usize, table: &[u8]) -> Vec<u8> {
     c
 }
 
+/// Turns the coefficients of terms with plain literals into those that give the same values where each term has
+/// its own polarity. The largest terms are settled first: a term with complemented literals is the exclusive OR of
+/// its plain term and of the plain terms that lack some of those literals, and these take up its coefficient.
+pub fn with_polarities(n: usize, polarity: impl Fn(usize) -> usize, c: &mut [u8]) {
+    for t in (0..places(n)).rev() {
+        let complemented = t & polarity(t);
+        let mut lacked = complemented;
+        while lacked != 0 {
+            c[t - lacked] ^= c[t];
+            lacked = (lacked - 1) & complemented;
+        }
+    }
+}
+
 /// The next smaller number than `part` whose literals are all in t.
 fn smaller_term(t: usize, part: usize) -> Option<usize> {
     Some(part.checked_sub(1)? & t)
@@ -178,6 +192,24 @@ mod tests {
             let wanted: Vec<usize> =
                 (0..t).filter(|&s| inputs(6).all(|i| !holds(s, i) || holds(t, i))).collect();
             assert_eq!(found, wanted);
+        }
+    }
+
+    /// Terms with polarities of their own give the table, and with one polarity for all the coefficients are those
+    /// of the forward call.
+    #[test]
+    fn each_term_with_its_own_polarity() {
+        for n in 1..=6 {
+            let table: Vec<u8> = (0..places(n)).map(|p| (p * p + p / 3) as u8).collect();
+            let drawn = |seed: usize| move |t: usize| (t * t * 7 + seed * 31 + t / 2) % places(n);
+            for seed in 0..places(n) {
+                let mut c = forward(n, 0, &table);
+                with_polarities(n, drawn(seed), &mut c);
+                assert!((0..places(n)).all(|p| value(n, drawn(seed), &c, p) == table[p]));
+                let mut c = forward(n, 0, &table);
+                with_polarities(n, |_| seed, &mut c);
+                assert_eq!(c, forward(n, seed, &table));
+            }
         }
     }
 

@@ -49,7 +49,7 @@ impl Family {
         }
     }
 
-    /// The first word of a listing of the block class.
+    /// The first word of a listing of the classes with mixed inputs.
     pub fn form_word(self) -> &'static str {
         match self {
             Family::One => "form",

@@ -1,7 +1,9 @@
-//! Buffers lent to a call, with a margin on both sides that no call may write, and the two calls on texts with such
-//! buffers.
+//! Buffers lent to a call, with a margin on both sides that no call may write, the two calls on texts with such
+//! buffers, and the listing that the text call writes.
 
 use crate::calls::{self, CompileAnswer, ReadAnswer};
+use crate::text::Design;
+use crate::text::listing::Listing;
 use std::fmt::Debug;
 use std::ops::Range;
 
@@ -92,6 +94,23 @@ pub fn run_read(text: &[u8], table: &[u8]) -> (ReadAnswer, Lent<u8>) {
 #[track_caller]
 pub fn run_compile(text: &[u8], output: &[u8]) -> (CompileAnswer, Lent<u8>) {
     run(text, output, calls::compile)
+}
+
+/// Longer than every listing.
+const ROOM: usize = 6000;
+
+/// The listing that the text call writes for an accepted text.
+#[track_caller]
+pub fn written(text: &[u8]) -> Vec<u8> {
+    let (answer, output) = run_compile(text, &[0; ROOM]);
+    assert_eq!(answer[..2], [0, 0], "{}", text.escape_ascii());
+    output.inside()[..answer[2] as usize].to_vec()
+}
+
+/// The same for a design with mixed inputs, as it is read.
+#[track_caller]
+pub fn listed(design: &Design) -> Listing {
+    Listing::read(design, &written(&design.text())).expect("a sound listing")
 }
 
 #[cfg(test)]

@@ -2,6 +2,7 @@
 //! misreading of the method from the method, and texts on both sides of each refusal.
 
 pub mod families;
+pub mod free;
 pub mod kronecker;
 pub mod outputs;
 pub mod pairs;
@@ -203,7 +204,7 @@ pub const REFUSED: [(&[u8], u64, u64); 87] = [
     (b"table 2 2 --\nend\n", 1, 1),
     (b"table 2 2 \nend\n", 1, 1),
     (b"table 2 2 T\nend\n", 1, 1),
-    (b"table 2 2 f1\nend\n", 1, 1),
+    (b"table 2 2 F1\nend\n", 1, 1),
     (b"table 2 2 :\nend\n", 1, 1),
     (b"table 2 2 /\nend\n", 1, 1),
     // Line 1: 1 before 2, 2 before 3, 3 before 4.
@@ -269,18 +270,18 @@ pub const REFUSED: [(&[u8], u64, u64); 87] = [
 
 /// Every text that is accepted, with its listing.
 pub fn accepted() -> impl Iterator<Item = (&'static [u8], &'static [u8])> {
-    chain(ACCEPTED, kronecker::ACCEPTED).chain(families::ACCEPTED)
+    chain(ACCEPTED, kronecker::ACCEPTED).chain(families::ACCEPTED).chain(free::ACCEPTED)
 }
 
 /// Every text that is refused, with the refusal's number and line.
 pub fn refused() -> impl Iterator<Item = (&'static [u8], u64, u64)> {
-    chain(REFUSED, kronecker::REFUSED).chain(families::REFUSED)
+    chain(REFUSED, kronecker::REFUSED).chain(families::REFUSED).chain(free::REFUSED)
 }
 
 #[cfg(test)]
 mod tests {
     use super::*;
-    use crate::class::{Class, least};
+    use crate::class::{Class, Members, least};
     use crate::evaluator::Refusal;
     use crate::family::Family;
     use crate::text::compile;
@@ -288,12 +289,9 @@ mod tests {
     #[test]
     fn designs() {
         for Marked { n, m, k, table, figures } in DESIGNS {
-            let found = least(Family::One, n, k, table);
-            let (member, cost) = (&found.member, found.cost);
-            let inverted = usize::from(found.inverted);
-            let numbers = [member.mixed, member.fixed, cost.products, cost.literals, inverted];
-            assert_eq!(numbers.map(|number| number as u64), figures, "{table:?}");
-            assert_eq!(found, Class::new(n, k).least(Family::One, m, table));
+            let found = least(Family::One, n, Class::Block(k), table);
+            assert_eq!(found.figures().map(|number| number as u64), figures, "{table:?}");
+            assert_eq!(found, Members::new(n, Class::Block(k)).least(Family::One, m, table));
         }
     }
 

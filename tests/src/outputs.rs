@@ -116,6 +116,7 @@ mod tests {
     fn outputs_are_left_out_of_texts() {
         let three = b"table2 3 4 -\non 0 1100\non 5 0001\non 7 1011\nend\n";
         let last = b"table 8 8 K\non 255 00010000\nend\n";
+        let free = b"table 2 3 f2\non 1 011\non 2 100\nend\n";
         for (text, bits, left) in [
             (EXAMPLE, 0b01, &b"table 2 1 1\non 1 1\non 2 1\non 3 1\nend\n"[..]),
             (EXAMPLE, 0b10, b"table 2 1 1\non 0 1\nend\n"),
@@ -123,6 +124,8 @@ mod tests {
             (three, 0b1001, b"table2 3 2 -\non 0 10\non 5 01\non 7 11\nend\n"),
             (three, 0b0100, b"table2 3 1 -\non 7 1\nend\n"),
             (three, 0b1110, b"table2 3 3 -\non 0 100\non 5 001\non 7 011\nend\n"),
+            (free, 0b011, b"table 2 2 f2\non 1 01\non 2 10\nend\n"),
+            (free, 0b001, b"table 2 1 f2\non 2 1\nend\n"),
             (last, 0b1111_0111, b"table 8 7 K\nend\n"),
             (last, 0b0001_1000, b"table 8 2 K\non 255 10\nend\n"),
         ] {

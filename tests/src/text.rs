@@ -6,18 +6,22 @@ pub mod listing;
 pub mod products;
 
 use crate::calls::ReadAnswer;
+use crate::class::{self, Class};
 use crate::evaluator::{Refusal, judge_lengths, places};
 use crate::family::Family;
-use crate::{class, kronecker};
-use fields::{Line, Lines, outputs_field, read_digit, read_number, read_outputs};
+use crate::kronecker;
+use fields::{
+    Line, Lines, class_field, outputs_field, read_class, read_digit, read_number, read_outputs,
+};
 use kron::KronListing;
 use listing::Listing;
 
 /// The kind of k: what the k field selects.
 #[derive(Clone, Copy, Debug, PartialEq, Eq)]
 pub enum Kind {
-    /// The block class with this many mixed inputs: a digit, or `-` for 1.
-    Block(usize),
+    /// A class with mixed inputs, whose listings begin with `form` or `form2`: a digit, or `-` for 1, selects the block
+    /// class, `f` and a digit the free class.
+    Mixed(Class),
     /// The Kronecker expansions: `K`.
     Kronecker,
 }
@@ -27,15 +31,15 @@ impl Kind {
     fn read(field: &[u8]) -> Option<Self> {
         match field {
             b"K" => Some(Kind::Kronecker),
-            b"-" => Some(Kind::Block(1)),
-            _ => read_digit(field).map(Kind::Block),
+            b"-" => Some(Kind::Mixed(Class::Block(1))),
+            _ => read_class(field).map(Kind::Mixed),
         }
     }
 
     /// The k field of a table text, with no `-`.
-    fn field(self) -> String {
+    pub fn field(self) -> String {
         match self {
-            Kind::Block(k) => k.to_string(),
+            Kind::Mixed(class) => class_field(class),
             Kind::Kronecker => "K".to_string(),
         }
     }
@@ -43,8 +47,9 @@ impl Kind {
     /// k and the kind as the reading call returns them.
     pub fn numbers(self) -> [u64; 2] {
         match self {
-            Kind::Block(k) => [k as u64, 1],
+            Kind::Mixed(Class::Block(k)) => [k as u64, 1],
             Kind::Kronecker => [0, 2],
+            Kind::Mixed(Class::Free(k)) => [k as u64, 3],
         }
     }
 }
@@ -62,7 +67,17 @@ pub struct Design {
 impl Design {
     /// A design of family one for the block class with k mixed inputs.
     pub fn block(n: usize, m: usize, k: usize, table: Vec<u8>) -> Self {
-        Design { family: Family::One, n, m, kind: Kind::Block(k), table }
+        Design::of_class(n, m, Class::Block(k), table)
+    }
+
+    /// A design of family one for the free class with k mixed inputs.
+    pub fn free(n: usize, m: usize, k: usize, table: Vec<u8>) -> Self {
+        Design::of_class(n, m, Class::Free(k), table)
+    }
+
+    /// A design of family one for a class.
+    pub fn of_class(n: usize, m: usize, class: Class, table: Vec<u8>) -> Self {
+        Design { family: Family::One, n, m, kind: Kind::Mixed(class), table }
     }
 
     /// The same design for another family.
@@ -75,21 +90,21 @@ impl Design {
         Design { family: Family::One, n, m, kind: Kind::Kronecker, table }
     }
 
-    /// The number of mixed inputs of a design for the block class.
+    /// The class of a design with mixed inputs.
     #[track_caller]
-    pub fn k(&self) -> usize {
+    pub fn class(&self) -> Class {
         match self.kind {
-            Kind::Block(k) => k,
+            Kind::Mixed(class) => class,
             Kind::Kronecker => panic!("Kronecker expansions have no mixed inputs"),
         }
     }
 
-    /// The table text, with k as a digit or as `K`.
+    /// The table text, with no `-`.
     pub fn text(&self) -> Vec<u8> {
         self.text_with(&self.kind.field())
     }
 
-    /// The table text with this field for k, which can be `-` for 1.
+    /// The table text with this k field, which can be `-` for 1.
     pub fn text_with(&self, k: &str) -> Vec<u8> {
         let on = |(p, &byte): (usize, &u8)| match byte {
             0 => String::new(),
@@ -134,8 +149,8 @@ fn read_first(line: &Line) -> Result<Design, Refusal> {
     if !(1..=8).contains(&m) {
         return Err(line.refusal(3));
     }
-    if let Kind::Block(k) = kind
-        && (k > 3 || k > n)
+    if let Kind::Mixed(class) = kind
+        && !class.allowed(n)
     {
         return Err(line.refusal(4));
     }
@@ -163,8 +178,8 @@ fn read_on(line: &Line, m: usize) -> Option<(usize, u8)> {
 pub fn compile(text: &[u8]) -> Result<Vec<u8>, Refusal> {
     let design = read(text)?;
     Ok(match design.kind {
-        Kind::Block(k) => {
-            let expansion = class::least(design.family, design.n, k, &design.table);
+        Kind::Mixed(class) => {
+            let expansion = class::least(design.family, design.n, class, &design.table);
             Listing::of(&design, &expansion).bytes()
         }
         Kind::Kronecker => {
@@ -216,7 +231,13 @@ mod tests {
 
     #[test]
     fn a_text_is_written_as_it_was_read() {
-        for text in [EXAMPLE, b"table2 2 2 1\non 0 01\nend\n", b"table 2 2 K\nend\n"] {
+        for text in [
+            EXAMPLE,
+            b"table2 2 2 1\non 0 01\nend\n",
+            b"table 2 2 K\nend\n",
+            b"table 2 1 f2\nend\n",
+            b"table2 1 1 f0\non 0 1\nend\n",
+        ] {
             let text = bytes(text);
             assert_eq!(read(&text).map(|design| design.text()), Ok(text));
         }

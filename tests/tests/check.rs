@@ -3,30 +3,30 @@
 
 use outside_cases::calls;
 use outside_cases::check::{self, Verdict};
-use outside_cases::class::{Expansion, masks};
-use outside_cases::evaluator::{Refusal, places};
+use outside_cases::class::{Class, Expansion, masks};
+use outside_cases::evaluator::{Refusal, holds, places};
 use outside_cases::family::Family;
-use outside_cases::lent::{Lent, answer};
+use outside_cases::lent::{Lent, answer, listed, written};
 use outside_cases::marked::families::{EXAMPLE_LISTING_TWO, EXAMPLE_TWO};
 use outside_cases::marked::pairs::{self, EXAMPLE_BEFORE, EXAMPLE_LISTING};
-use outside_cases::marked::{ACCEPTED, EXAMPLE, bytes, families, kronecker, refused};
+use outside_cases::marked::{ACCEPTED, EXAMPLE, bytes, families, free, kronecker, refused};
 use outside_cases::seeded::Seeded;
 use outside_cases::seeded::listings::{
     any_listing, any_member, break_line, change_counts, change_cube, change_mask, change_outputs,
-    change_polarities, drawn_listing, drop_term, empty_listing, trade_inverters, true_counts,
-    with_broken_mask, with_other_byte, with_other_sizes,
+    change_polarities, complement_where, drawn_listing, drop_term, empty_listing, other_class,
+    trade_inverters, true_counts, with_broken_mask, with_other_byte, with_other_sizes,
 };
 use outside_cases::seeded::tables::{longest_listing_table, random_table};
 use outside_cases::seeded::texts::{
-    TELLING_BYTES, damaged_text, kronecker_text, sound_text, with_k_somewhere, with_other_lines,
-    with_other_word,
+    TELLING_BYTES, damaged_text, kronecker_text, sound_text, with_k_somewhere, with_other_k,
+    with_other_lines, with_other_word,
 };
 use outside_cases::text::listing::Listing;
 use outside_cases::text::{Design, Kind, compile};
 use std::collections::BTreeMap;
 
 /// How many pairs are drawn, the same number of each sort.
-const PAIRS: usize = 12_000;
+const PAIRS: usize = 13_760;
 
 /// How often a sort gives each of its outcomes, at least.
 const LEAST: usize = 5;
@@ -91,19 +91,6 @@ fn drawn_with_terms(seeded: &mut Seeded) -> (Design, Vec<u8>) {
     if constant { drawn_with_terms(seeded) } else { (design, text) }
 }
 
-/// The listing that the text call writes.
-fn ours(text: &[u8]) -> Vec<u8> {
-    let (mut output, mut answer) = ([0; 6000], [0; 3]);
-    calls::compile(text, &mut output, &mut answer);
-    assert_eq!(answer[..2], [0, 0], "{}", text.escape_ascii());
-    output[..answer[2] as usize].to_vec()
-}
-
-/// The same, as it is read.
-fn ours_read(design: &Design, text: &[u8]) -> Listing {
-    Listing::read(design, &ours(text)).expect("our listing is sound")
-}
-
 type Change = fn(&mut Seeded, &mut Listing);
 
 /// Our listing of a table that is not constant, with a change.
@@ -114,7 +101,7 @@ fn changed(seeded: &mut Seeded, change: Change) -> Pair {
 /// The same with two changes.
 fn changed_twice(seeded: &mut Seeded, first: Change, second: Change) -> Pair {
     let (design, text) = drawn_with_terms(seeded);
-    let mut listing = ours_read(&design, &text);
+    let mut listing = listed(&design);
     first(seeded, &mut listing);
     second(seeded, &mut listing);
     Pair { text, listing: listing.bytes() }
@@ -127,7 +114,7 @@ struct Sort {
     pair: fn(&mut Seeded) -> Pair,
 }
 
-const SORTS: [Sort; 38] = [
+const SORTS: [Sort; 43] = [
     Sort { name: "our listing", outcomes: &[Same], pair: own_listing },
     Sort {
         name: "a character of a cube",
@@ -312,11 +299,42 @@ const SORTS: [Sort; 38] = [
         outcomes: &[Same, BadTable, OtherListing],
         pair: table_word,
     },
+    Sort {
+        name: "a listing of the other class with the same k",
+        outcomes: &[OtherListing],
+        pair: listing_of_other_class,
+    },
+    Sort {
+        name: "the k field of a listing, with an f or nearly so",
+        outcomes: &[Same, BadListing, OtherListing],
+        pair: |seeded| {
+            let (_, text) = drawn(seeded);
+            Pair { listing: with_other_k(seeded, &written(&text)), text }
+        },
+    },
+    Sort {
+        name: "the k field of a table text, with an f or nearly so",
+        outcomes: &[Same, BadTable, OtherListing],
+        pair: |seeded| {
+            let (_, text) = drawn(seeded);
+            Pair { listing: written(&text), text: with_other_k(seeded, &text) }
+        },
+    },
+    Sort {
+        name: "f2, a literal in M complemented, beside the table that the cubes give",
+        outcomes: &[Same],
+        pair: |seeded| complemented_literal(seeded, true),
+    },
+    Sort {
+        name: "f2, a literal outside M complemented, beside the table that the cubes give",
+        outcomes: &[NotOfClass],
+        pair: |seeded| complemented_literal(seeded, false),
+    },
 ];
 
 fn own_listing(seeded: &mut Seeded) -> Pair {
     let (_, text) = drawn(seeded);
-    Pair { listing: ours(&text), text }
+    Pair { listing: written(&text), text }
 }
 
 fn change_with_true_counts(seeded: &mut Seeded, listing: &mut Listing) {
@@ -327,13 +345,13 @@ fn change_with_true_counts(seeded: &mut Seeded, listing: &mut Listing) {
 
 fn other_lines(seeded: &mut Seeded) -> Pair {
     let (_, text) = drawn_with_terms(seeded);
-    Pair { listing: with_other_lines(seeded, &ours(&text)), text }
+    Pair { listing: with_other_lines(seeded, &written(&text)), text }
 }
 
 /// Our listing with a change in its lines, and another n, m or k.
 fn other_sizes_line(seeded: &mut Seeded, change: Change) -> Pair {
     let (design, text) = drawn_with_terms(seeded);
-    let mut listing = ours_read(&design, &text);
+    let mut listing = listed(&design);
     change(seeded, &mut listing);
     Pair { listing: with_other_sizes(seeded, &listing), text }
 }
@@ -341,7 +359,7 @@ fn other_sizes_line(seeded: &mut Seeded, change: Change) -> Pair {
 /// Our listing with a change in its lines, and a second line that is broken or missing.
 fn broken_mask(seeded: &mut Seeded, change: Change) -> Pair {
     let (design, text) = drawn_with_terms(seeded);
-    let mut listing = ours_read(&design, &text);
+    let mut listing = listed(&design);
     change(seeded, &mut listing);
     Pair { listing: with_broken_mask(seeded, &listing), text }
 }
@@ -352,7 +370,7 @@ fn broken_mask_of_other_sizes(seeded: &mut Seeded) -> Pair {
     let ((design, text), (other, _)) = (drawn(seeded), drawn(seeded));
     let mut listing = any_listing(seeded, &other);
     if sizes(&design) == sizes(&other) || seeded.once_in(3) {
-        listing.k = seeded.within(4, 15);
+        listing.class = listing.class.with_k(seeded.within(4, 15));
     }
     Pair { text, listing: with_broken_mask(seeded, &listing) }
 }
@@ -367,22 +385,22 @@ fn broken_mask_beside_k(seeded: &mut Seeded) -> Pair {
 /// The listing of any member without inverters and without a second line.
 fn before_inverters(seeded: &mut Seeded) -> Pair {
     let (design, text) = drawn(seeded);
-    let member = any_member(seeded, design.n, design.k());
+    let member = any_member(seeded, design.n, design.class());
     let expansion = Expansion::giving(design.n, member, 0, &design.table);
     Pair { text, listing: Listing::of(&design, &expansion).bytes_with("") }
 }
 
 fn other_byte(seeded: &mut Seeded) -> Pair {
     let (_, text) = drawn_with_terms(seeded);
-    Pair { listing: with_other_byte(seeded, &ours(&text)), text }
+    Pair { listing: with_other_byte(seeded, &written(&text)), text }
 }
 
 fn damaged_pair(seeded: &mut Seeded) -> Pair {
     let (mut design, text) = drawn(seeded);
     let listing = match seeded.below(4) {
-        0 => ours(&text),
-        1 => damaged_text(seeded, &ours(&text)),
-        _ => with_other_byte(seeded, &ours(&text)),
+        0 => written(&text),
+        1 => damaged_text(seeded, &written(&text)),
+        _ => with_other_byte(seeded, &written(&text)),
     };
     let text = match seeded.below(6) {
         0 | 1 => damaged_text(seeded, &text),
@@ -483,7 +501,8 @@ fn k_somewhere(seeded: &mut Seeded) -> Pair {
         0 => compile(&text).expect("a sound text"),
         _ => {
             let family = *seeded.pick(&Family::ALL);
-            any_listing(seeded, &Design { family, kind: Kind::Block(1), ..design }).bytes()
+            any_listing(seeded, &Design { family, kind: Kind::Mixed(Class::Block(1)), ..design })
+                .bytes()
         }
     };
     let text = if seeded.once_in(3) { text } else { with_k_somewhere(seeded, &text) };
@@ -493,7 +512,7 @@ fn k_somewhere(seeded: &mut Seeded) -> Pair {
 /// Our listing with a change in its lines and the word of the other family.
 fn other_family(seeded: &mut Seeded, change: Change) -> Pair {
     let (design, text) = drawn_with_terms(seeded);
-    let mut listing = ours_read(&design, &text);
+    let mut listing = listed(&design);
     change(seeded, &mut listing);
     listing.family = match design.family {
         Family::One => Family::Two,
@@ -505,13 +524,37 @@ fn other_family(seeded: &mut Seeded, change: Change) -> Pair {
 /// Our listing with a first word that is `form`, `form2` or near them.
 fn listing_word(seeded: &mut Seeded) -> Pair {
     let (_, text) = drawn(seeded);
-    Pair { listing: with_other_word(seeded, &ours(&text)), text }
+    Pair { listing: with_other_word(seeded, &written(&text)), text }
 }
 
 /// Our listing beside its text with a first word that is `table`, `table2` or near them.
 fn table_word(seeded: &mut Seeded) -> Pair {
     let (_, text) = drawn(seeded);
-    Pair { listing: ours(&text), text: with_other_word(seeded, &text) }
+    Pair { listing: written(&text), text: with_other_word(seeded, &text) }
+}
+
+/// The listing of any member that gives the table, with the field of the other class. `f3` has no member.
+fn listing_of_other_class(seeded: &mut Seeded) -> Pair {
+    let (design, text) = drawn(seeded);
+    let mut listing = any_listing(seeded, &design);
+    listing.class = other_class(listing.class);
+    Pair { text, listing: listing.bytes() }
+}
+
+/// A listing of `f2` with one literal of an input in M, or of one outside, complemented, beside the table that its cubes
+/// then give.
+fn complemented_literal(seeded: &mut Seeded, inside: bool) -> Pair {
+    let n = seeded.within(3, 5);
+    let m = seeded.within(1, 8);
+    let mut design =
+        Design::free(n, m, 2, random_table(seeded, n, m)).of_family(*seeded.pick(&Family::ALL));
+    let mut listing = any_listing(seeded, &design);
+    let mixed = listing.mixed;
+    if !complement_where(seeded, &mut listing, |i| holds(mixed, i) == inside) {
+        return complemented_literal(seeded, inside);
+    }
+    design.table = (0..places(n)).map(|p| listing.value(p)).collect();
+    Pair { text: design.text(), listing: listing.bytes() }
 }
 
 /// Drawn pairs of each sort. A sort that no longer gives one of its outcomes fails.
@@ -541,7 +584,8 @@ fn marked_pairs() {
 /// refused; a refused one is refused as it is by the reading call, whatever the listing is.
 #[test]
 fn marked_texts() {
-    for (text, listing) in ACCEPTED.into_iter().chain(families::ACCEPTED) {
+    let sound = ACCEPTED.into_iter().chain(families::ACCEPTED).chain(free::ACCEPTED);
+    for (text, listing) in sound {
         check_answer(&bytes(text), &bytes(listing), [0, 0, 1, 0]);
     }
     for (text, listing) in kronecker::ACCEPTED {
@@ -572,13 +616,17 @@ fn members_beside_two_tables() {
     }
 }
 
-/// Every byte of a listing of each family changed into every other, beside a text of each family and one with
-/// `K`.
+/// The example's listing with `f1` for k.
+const FREE_LISTING: &[u8] = b"form 2 2 f1 1 2 1 2\ninv 10\nterm 00 11\nend\n";
+
+/// Every byte of a listing of each family and of the free class changed into every other, beside a text of each family,
+/// one with `K` and one of the free class.
 #[test]
 fn every_byte_changed() {
     let design = Design::block(2, 2, 1, vec![2, 1, 1, 1]);
-    let texts = [design.text(), design.text_with("K"), design.of_family(Family::Two).text()];
-    for listing in [EXAMPLE_LISTING, EXAMPLE_LISTING_TWO].map(bytes) {
+    let [one, kronecker, free] = ["1", "K", "f1"].map(|field| design.text_with(field));
+    let texts = [one, kronecker, free, design.of_family(Family::Two).text()];
+    for listing in [EXAMPLE_LISTING, EXAMPLE_LISTING_TWO, FREE_LISTING].map(bytes) {
         for place in 0..listing.len() {
             for byte in 0..=255 {
                 let mut changed = listing.clone();
@@ -595,7 +643,10 @@ fn every_byte_changed() {
 /// every place.
 #[test]
 fn every_place_edited() {
-    for pair in [[EXAMPLE, EXAMPLE_LISTING], [EXAMPLE_TWO, EXAMPLE_LISTING_TWO]] {
+    let free = b"table 2 2 f1\non 0 01\non 1 10\non 2 10\non 3 10\nend\n";
+    for pair in
+        [[EXAMPLE, EXAMPLE_LISTING], [EXAMPLE_TWO, EXAMPLE_LISTING_TWO], [free, FREE_LISTING]]
+    {
         let [text, listing] = pair.map(bytes);
         for place in 0..listing.len() {
             let (before, after) = listing.split_at(place);
@@ -617,9 +668,11 @@ fn every_place_edited() {
 fn every_mixed_set_and_polarity() {
     let example = Design::block(2, 2, 1, vec![2, 1, 1, 1]);
     let zero = Design::block(3, 1, 2, vec![0; 8]);
-    for design in [example.clone(), example.of_family(Family::Two), zero] {
+    let free = [Design::free(2, 2, 1, vec![2, 1, 1, 1]), Design::free(3, 1, 2, vec![0; 8])];
+    let block = [example.clone(), example.of_family(Family::Two), zero];
+    for design in block.into_iter().chain(free) {
         let text = design.text();
-        let listing = ours_read(&design, &text);
+        let listing = listed(&design);
         for number in 0..300 {
             for (mixed, fixed) in [(number, 0), (number, 2), (1, number), (3, number)] {
                 check_pair(&text, &Listing { mixed, fixed, ..listing.clone() }.bytes());
@@ -635,9 +688,10 @@ fn every_mixed_set_and_polarity() {
 #[test]
 fn long_listings() {
     let mut seeded = Seeded::new(83);
-    for (family, k) in Family::ALL.into_iter().flat_map(|family| (0..=3).map(move |k| (family, k)))
+    for (family, class) in
+        Family::ALL.into_iter().flat_map(|f| Class::every(8).map(move |c| (f, c)))
     {
-        let design = Design::block(8, 8, k, longest_listing_table()).of_family(family);
+        let design = Design::of_class(8, 8, class, longest_listing_table()).of_family(family);
         let (text, listing) = (design.text(), any_listing(&mut seeded, &design).bytes());
         assert_eq!(check_pair(&text, &listing), Same);
         for length in (0..listing.len()).step_by(331) {

@@ -1,6 +1,7 @@
 //! The program `rmcheck`: a table text and a listing, in two files, to one line.
 
 use outside_cases::check::printed;
+use outside_cases::class::Class;
 use outside_cases::family::Family;
 use outside_cases::marked::families::{EXAMPLE_LISTING_TWO, EXAMPLE_TWO};
 use outside_cases::marked::pairs::{self, EXAMPLE_BEFORE, EXAMPLE_LISTING};
@@ -9,7 +10,7 @@ use outside_cases::program::{JUDGED_BYTES, Written, run_check};
 use outside_cases::seeded::Seeded;
 use outside_cases::seeded::listings::any_listing;
 use outside_cases::seeded::tables::longest_listing_table;
-use outside_cases::seeded::texts::{damaged_text, sound_text, with_other_word};
+use outside_cases::seeded::texts::{damaged_text, sound_text, with_other_k, with_other_word};
 use outside_cases::text::Design;
 
 /// What the program writes for a table text and a listing.
@@ -49,6 +50,10 @@ fn lines() {
     assert_eq!(written(&kronecker, &own_two), b"refused\t12\t1\n");
     let kron = bytes(b"kron 2 1 SP 1 1\nterm 1- 1\nend\n");
     assert_eq!(written(&kronecker, &kron), b"refused\t11\t1\n");
+    let (free, digit) = (bytes(b"table 2 1 f2\nend\n"), bytes(b"table 2 1 2\nend\n"));
+    let free_listing = bytes(b"form 2 1 f2 3 0 0 0\ninv 0\nend\n");
+    assert_eq!(written(&free, &free_listing), b"same\n");
+    assert_eq!(written(&digit, &free_listing), b"refused\t12\t1\n");
     let last = bytes(b"table 8 1 3\non 255 1\nend\n");
     assert_eq!(written(&last, &bytes(b"form 8 1 3 7 0 0 0\ninv 0\nend\n")), b"differs\t255\n");
 }
@@ -71,16 +76,20 @@ fn drawn_pairs() {
         check_files(&damaged_text(&mut seeded, &text), &listing);
         check_files(&text, &with_other_word(&mut seeded, &listing));
         check_files(&with_other_word(&mut seeded, &text), &listing);
+        check_files(&text, &with_other_k(&mut seeded, &listing));
+        check_files(&with_other_k(&mut seeded, &text), &listing);
     }
 }
 
-/// The longest text of each family beside the longest listing.
+/// The longest texts of each family and class beside a listing of all terms.
 #[test]
 fn longest() {
-    for family in Family::ALL {
-        let design = Design::block(8, 8, 3, longest_listing_table()).of_family(family);
-        let listing = any_listing(&mut Seeded::new(92), &design).bytes();
-        check_files(&design.text(), &listing);
+    for class in [Class::Block(3), Class::Free(2)] {
+        let design = Design::of_class(8, 8, class, longest_listing_table());
+        for design in Family::ALL.map(|family| design.clone().of_family(family)) {
+            let listing = any_listing(&mut Seeded::new(92), &design).bytes();
+            check_files(&design.text(), &listing);
+        }
     }
 }
 

@@ -1,13 +1,13 @@
 //! The designs of `examples/`: `rmform` writes each stored listing, the evaluator agrees, and `rmcheck` says
 //! `same` of a `form` or `form2` listing and refuses a `kron` listing with 11, line 1; the design that is there
-//! with its outputs the other way round, the one with outputs left out, and the one for both families; and the
-//! edited listings of `examples/checks/`, with the line that `rmcheck` writes for each.
+//! with its outputs the other way round, the one with outputs left out, the one for both families, and the one of
+//! the free class beside every digit; and the edited listings of `examples/checks/`, with the line that `rmcheck` writes for each.
 
 use outside_cases::check;
-use outside_cases::class::before_inverters;
+use outside_cases::class::{Class, before_inverters};
 use outside_cases::family::Family;
 use outside_cases::outputs::Choice;
-use outside_cases::program::{run, run_check};
+use outside_cases::program::{Written, run, run_check};
 use outside_cases::seeded::tables::output_bits;
 use outside_cases::text::listing::Listing;
 use outside_cases::text::{Design, Kind, printed};
@@ -41,7 +41,7 @@ fn first_word(text: &[u8]) -> &'static str {
 #[test]
 fn listings_are_written() {
     let tables = tables();
-    assert!(tables.len() >= 12, "{} designs", tables.len());
+    assert!(tables.len() >= 14, "{} designs", tables.len());
     for table in tables {
         let text = read(&table).expect("a table text");
         let listing = read(table.with_extension("listing")).expect("its listing");
@@ -108,6 +108,25 @@ fn families_side_by_side() {
     assert!(Family::Two.order(two) < Family::Two.order(one));
     for pair in [[&tables[0], &listings[1]], [&tables[1], &listings[0]]] {
         assert_eq!(run_check(&pair.map(PathBuf::as_path)).stdout, b"refused\t12\t1\n");
+    }
+}
+
+/// The design of the free class: at `f2` it is cheaper than at every digit, and beside the text with a digit its listing
+/// is refused.
+#[test]
+fn free_class_beside_digits() {
+    let table = directory().join("bus-requests.table");
+    let own = design(&read(&table).expect("a table text"));
+    assert_eq!(own.class(), Class::Free(2));
+    let cost = |design: &Design| {
+        let listing = run(&[&design.text()], || ());
+        Listing::read(design, &listing).expect("a sound listing").counted()
+    };
+    for class in Class::every_block(own.n) {
+        let digit = Design { kind: Kind::Mixed(class), ..own.clone() };
+        assert!(Family::One.order(cost(&own)) < Family::One.order(cost(&digit)));
+        let (text, listing) = (Written::new(&digit.text()), table.with_extension("listing"));
+        assert_eq!(run_check(&[text.path(), &listing]).stdout, b"refused\t12\t1\n");
     }
 }
 

@@ -5,7 +5,7 @@ use outside_cases::calls::{
     CheckAnswer, CompileAnswer, MinimiseAnswer, ReadAnswer, TransformAnswer,
 };
 use outside_cases::check::{Verdict, answer, check};
-use outside_cases::class::{Cost, Expansion, Member, minimise_answer};
+use outside_cases::class::{Class, Cost, Expansion, Member, minimise_answer};
 use outside_cases::family::Family;
 use outside_cases::marked::{EXAMPLE, bytes};
 use outside_cases::seeded::tables::longest_listing_table;
@@ -84,9 +84,12 @@ fn declarations_are_those_of_the_exported_functions() {
 fn limits_and_lengths() {
     let constants = constants(&header());
     let table = longest_listing_table();
-    let block = |family| Design::block(8, 8, 3, table.clone()).of_family(family).text();
+    let of_class = |class| {
+        let design = Design::of_class(8, 8, class, table.clone());
+        Family::ALL.map(|family| design.clone().of_family(family).text())
+    };
     let kronecker = Design::kronecker(8, 8, table.clone()).text();
-    let texts = [block(Family::One), block(Family::Two), kronecker];
+    let texts: Vec<Vec<u8>> = Class::every(8).flat_map(of_class).chain([kronecker]).collect();
     let longest = |length: fn(&Vec<u8>) -> usize| texts.iter().map(length).max().expect("texts");
     for (name, number) in [
         ("MOST_INPUTS", 8),
@@ -112,7 +115,7 @@ fn limits_and_lengths() {
 fn numbers_of_the_minimising_call() {
     let constants = constants(&header());
     let found = Expansion {
-        member: Member { mixed: 5, fixed: 2, blocks: Vec::new() },
+        member: Member { class: Class::Block(2), mixed: 5, fixed: 2, polarities: Vec::new() },
         coefficients: Vec::new(),
         inverted: 9,
         cost: Cost { products: 3, literals: 7 },
@@ -138,10 +141,13 @@ fn numbers_of_the_reading_call() {
     let constants = constants(&header());
     let constant = |name: &str| constants.get(&format!("MIPALDOZ_{name}")).copied();
     let block = Design::block(4, 2, 3, vec![0; 16]);
+    let free = Design::free(4, 2, 2, vec![0; 16]);
     for (design, k, kind, family) in [
         (block.clone(), 3, "KIND_BLOCK", "FAMILY_ONE"),
         (block.of_family(Family::Two), 3, "KIND_BLOCK", "FAMILY_TWO"),
         (Design::kronecker(4, 2, vec![0; 16]), 0, "KIND_KRONECKER", "FAMILY_ONE"),
+        (free.clone(), 2, "KIND_FREE", "FAMILY_ONE"),
+        (free.of_family(Family::Two), 2, "KIND_FREE", "FAMILY_TWO"),
     ] {
         let answer = read_answer(&Ok(design));
         let number = |place: &str| Some(answer[constant(place).expect(place)] as usize);

@@ -1,7 +1,9 @@
-//! The minimising call, which keeps to family one, against both searches of the class.
+//! The minimising call, which keeps to family one and to the block class, against both searches of the class.
 
 use outside_cases::calls::{self, MinimiseAnswer};
-use outside_cases::class::{Class, Cost, Expansion, judge_minimise, least, minimise_answer};
+use outside_cases::class::{
+    Class, Cost, Expansion, Members, judge_minimise, least, minimise_answer,
+};
 use outside_cases::evaluator::{literals, places};
 use outside_cases::family::Family;
 use outside_cases::lent::{Lent, answer};
@@ -54,13 +56,13 @@ fn run_sound(seeded: &mut Seeded, numbers: Numbers, table: &[u8]) -> Outcome {
 fn check_found(numbers: Numbers, table: &[u8], outcome: &Outcome, wanted: &Expansion) {
     assert_eq!(outcome.answer, minimise_answer(Ok(wanted)), "{numbers:?} {table:?}");
     let blocks: Vec<usize> = outcome.blocks.inside().iter().copied().map(usize::from).collect();
-    assert_eq!(blocks, wanted.member.blocks, "{numbers:?} {table:?}");
+    assert_eq!(blocks, wanted.member.polarities, "{numbers:?} {table:?}");
     assert_eq!(outcome.coefficients.inside(), wanted.coefficients, "{numbers:?} {table:?}");
 }
 
 /// One sound design against the search block by block, and at every point.
 fn check_design(seeded: &mut Seeded, numbers: Numbers, table: &[u8]) -> Expansion {
-    let wanted = least(Family::One, numbers.n, numbers.k, table);
+    let wanted = least(Family::One, numbers.n, Class::Block(numbers.k), table);
     assert_eq!(wanted.table(numbers.n), table);
     check_found(numbers, table, &run_sound(seeded, numbers, table), &wanted);
     wanted
@@ -71,10 +73,10 @@ fn every_small_table() {
     let mut seeded = Seeded::new(21);
     for (n, m) in [(1, 1), (1, 2), (2, 1), (2, 2), (3, 1)] {
         for k in 0..=n {
-            let (class, numbers) = (Class::new(n, k), Numbers { n, m, k });
+            let (members, numbers) = (Members::new(n, Class::Block(k)), Numbers { n, m, k });
             for table in every_table(n, m) {
                 let outcome = run_sound(&mut seeded, numbers, &table);
-                check_found(numbers, &table, &outcome, &class.least(Family::One, m, &table));
+                check_found(numbers, &table, &outcome, &members.least(Family::One, m, &table));
             }
         }
     }
@@ -86,12 +88,12 @@ fn against_every_member() {
     let mut seeded = Seeded::new(22);
     for (n, rounds) in [(1, 60), (2, 60), (3, 400), (4, 25)] {
         for k in 0..=n.min(3) {
-            let class = Class::new(n, k);
+            let members = Members::new(n, Class::Block(k));
             for _ in 0..rounds {
-                let m = seeded.within(1, class.most_outputs());
+                let m = seeded.within(1, members.most_outputs());
                 let (numbers, table) = (Numbers { n, m, k }, any_table(&mut seeded, n, m));
                 let outcome = run_sound(&mut seeded, numbers, &table);
-                check_found(numbers, &table, &outcome, &class.least(Family::One, m, &table));
+                check_found(numbers, &table, &outcome, &members.least(Family::One, m, &table));
             }
         }
     }
@@ -175,7 +177,10 @@ fn check_judgement(seeded: &mut Seeded, numbers: Numbers, table: &[u8], lengths:
     let outcome = run(numbers, table, &seeded.bytes(lengths[0]), &seeded.bytes(lengths[1]));
     let Numbers { n, m, k } = numbers;
     match judge_minimise(n, m, k, table, lengths[0], lengths[1]) {
-        Ok(()) => check_found(numbers, table, &outcome, &least(Family::One, n, k, table)),
+        Ok(()) => {
+            let wanted = least(Family::One, n, Class::Block(k), table);
+            check_found(numbers, table, &outcome, &wanted)
+        }
         Err(refusal) => {
             let wanted = minimise_answer(Err(refusal));
             assert_eq!(outcome.answer, wanted, "{numbers:?}, {} and {lengths:?}", table.len());

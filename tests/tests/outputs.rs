@@ -2,13 +2,14 @@
 //! read from the listings that the text call writes for the whole text and for the text with the other outputs left
 //! out.
 
-use outside_cases::class::{Class, Cost};
+use outside_cases::class::{Class, Cost, Members};
 use outside_cases::evaluator::places;
 use outside_cases::family::Family;
 use outside_cases::kronecker::Kinds;
-use outside_cases::lent::{run_compile, run_read};
+use outside_cases::lent::{run_read, written};
 use outside_cases::marked::outputs::{
-    ANOTHER_FAMILY, ANOTHER_K, ANOTHER_TABLE, Chosen, Costed, MORE_LITERALS, MORE_PRODUCTS,
+    ANOTHER_CLASS, ANOTHER_FAMILY, ANOTHER_K, ANOTHER_TABLE, Chosen, Costed, MORE_LITERALS,
+    MORE_PRODUCTS,
 };
 use outside_cases::outputs::Choice;
 use outside_cases::seeded::Seeded;
@@ -22,16 +23,14 @@ use outside_cases::text::{Design, Kind, read, read_answer};
 /// The counts on the first line of the listing that the text call writes. Its `term` lines have just these.
 fn listed_cost(text: &[u8]) -> Cost {
     let design = read(text).expect("the text is accepted");
-    let (answer, output) = run_compile(text, &[0; 6000]);
-    assert_eq!(answer[..2], [0, 0], "{}", text.escape_ascii());
-    let written = &output.inside()[..answer[2] as usize];
+    let written = written(text);
     let [stated, counted] = match design.kind {
-        Kind::Block(_) => {
-            let listing = Listing::read(&design, written).expect("a sound listing");
+        Kind::Mixed(_) => {
+            let listing = Listing::read(&design, &written).expect("a sound listing");
             [listing.stated, listing.counted()]
         }
         Kind::Kronecker => {
-            let listing = KronListing::read(written).expect("a sound listing");
+            let listing = KronListing::read(&written).expect("a sound listing");
             assert_eq!((listing.letters.len(), listing.m), (design.n, design.m));
             [listing.stated, listing.counted()]
         }
@@ -92,12 +91,14 @@ struct Table {
     bytes: Vec<u8>,
 }
 
-/// The designs of a table at every k in both families, and with `K`.
+/// The designs of a table with every k field, a digit or `f` and a digit, in both families, and with `K`.
 fn designs(Table { n, m, bytes }: &Table) -> Vec<Design> {
-    let block = |k| Design::block(*n, *m, k, bytes.clone());
-    let of_k = |k| Family::ALL.map(|family| block(k).of_family(family));
+    let of_class = |class| {
+        let design = Design::of_class(*n, *m, class, bytes.clone());
+        Family::ALL.map(|family| design.clone().of_family(family))
+    };
     let kronecker = Design::kronecker(*n, *m, bytes.clone());
-    (0..=3.min(*n)).flat_map(of_k).chain([kronecker]).collect()
+    Class::every(*n).flat_map(of_class).chain([kronecker]).collect()
 }
 
 /// Tables of several densities, of any sort, and of outputs that share products.
@@ -109,7 +110,7 @@ fn drawn_tables(seeded: &mut Seeded, n: usize, m: usize) -> Vec<Table> {
     drawn.into_iter().map(|bytes| Table { n, m, bytes }).collect()
 }
 
-/// Every choice of the outputs of these tables, at every k, in both families and with `K`.
+/// Every choice of the outputs of these tables, with every k field, in both families and with `K`.
 fn check_tables(tables: &[Table]) {
     let mut tally = Tally::default();
     for design in tables.iter().flat_map(designs) {
@@ -161,9 +162,13 @@ fn least_costs_of_the_evaluator() {
     let (mut tables, mut tally) = (0, Tally::default());
     for n in 1..=3 {
         let (small, kinds) = (small_tables(&mut seeded, n), Kinds::new(n));
-        let classes: Vec<Class> = (0..=n).map(|k| Class::new(n, k)).collect();
+        let classes: Vec<Members> = Class::every(n).map(|class| Members::new(n, class)).collect();
+        let of_class = |class| classes.iter().find(|members| members.class == class);
         let least = |Design { family, m, kind, table, .. }: &Design| match *kind {
-            Kind::Block(k) => classes[k].least(*family, *m, table).cost,
+            Kind::Mixed(class) => {
+                let members = of_class(class).expect("every class is there");
+                members.least(*family, *m, table).cost
+            }
             Kind::Kronecker => kinds.least(table).cost,
         };
         for design in small.iter().flat_map(designs) {
@@ -184,7 +189,7 @@ fn text_with_outputs_left_out() {
         let bytes = any_table(&mut seeded, n, m);
         for design in designs(&Table { n, m, bytes }) {
             check_left_out(&mut seeded, &design, Design::text);
-            if design.kind == Kind::Block(1) {
+            if design.kind == Kind::Mixed(Class::Block(1)) {
                 check_left_out(&mut seeded, &design, |design| design.text_with("-"));
             }
         }
@@ -247,10 +252,11 @@ fn a_choice_of_another_table() {
     assert!(Choice::every(whole.m).all(|choice| choice.of_table(whole.table) != other.table));
 }
 
-/// "At the same k and family": elsewhere the same outputs can be dearer.
+/// "At the same k and family": elsewhere the same outputs can be dearer, as with `2` beside `f2`.
 #[test]
 fn another_k_or_family() {
     check_dearer(&ANOTHER_K);
+    check_dearer(&ANOTHER_CLASS);
     check_dearer(&ANOTHER_FAMILY);
 }
 

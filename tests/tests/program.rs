@@ -1,12 +1,16 @@
 //! The program `rmform`: standard input to standard output.
 
+use outside_cases::class::Class;
 use outside_cases::family::Family;
 use outside_cases::marked::{EXAMPLE, accepted, bytes, refused};
 use outside_cases::program::{JUDGED_BYTES, run};
 use outside_cases::seeded::Seeded;
-use outside_cases::seeded::tables::{longest_listing_table, random_table};
+use outside_cases::seeded::tables::{
+    longest_free_listing_table, longest_listing_table, random_table,
+};
 use outside_cases::seeded::texts::{
-    damaged_text, kronecker_text, sound_text, with_k_somewhere, with_other_word,
+    damaged_text, free_text_of, kronecker_text, sound_text, with_f_somewhere, with_k_somewhere,
+    with_other_k, with_other_word,
 };
 use outside_cases::text::{Design, printed};
 use std::thread::sleep;
@@ -60,18 +64,32 @@ fn drawn_kronecker_texts() {
     }
 }
 
-/// All zero, all one and drawn tables of every size, with every k.
+#[test]
+fn drawn_free_texts() {
+    let mut seeded = Seeded::new(64);
+    for round in 0..80 {
+        let (family, most) = (Family::ALL[round % 2], if round % 5 == 0 { 8 } else { 4 });
+        let (_, text) = free_text_of(&mut seeded, family, most);
+        check_judged(&text);
+        check_judged(&damaged_text(&mut seeded, &text));
+        check_judged(&with_f_somewhere(&mut seeded, &text));
+        check_judged(&with_other_k(&mut seeded, &text));
+    }
+}
+
+/// All zero, all one and drawn tables of every size, with every k field.
 #[test]
 fn every_size() {
     let mut seeded = Seeded::new(62);
     for n in 1..=8usize {
-        for k in 0..=n.min(3) {
+        for class in Class::every(n) {
             let m = seeded.within(1, 8);
             let size = 1 << n;
             let drawn = random_table(&mut seeded, n, m);
             for table in [vec![0; size], vec![1; size], drawn] {
                 for family in Family::ALL {
-                    check_judged(&Design::block(n, m, k, table.clone()).of_family(family).text());
+                    let design = Design::of_class(n, m, class, table.clone());
+                    check_judged(&design.of_family(family).text());
                 }
                 check_judged(&Design::kronecker(n, m, table).text());
             }
@@ -83,9 +101,12 @@ fn every_size() {
 #[test]
 fn longest() {
     let block = Design::block(8, 8, 3, longest_listing_table());
+    let free = Design::free(8, 8, 2, longest_free_listing_table());
     for (design, lengths) in [
         (block.clone(), (4002, 5908)),
         (block.of_family(Family::Two), (4003, 5909)),
+        (free.clone(), (4003, 5911)),
+        (free.of_family(Family::Two), (4004, 5912)),
         (Design::kronecker(8, 8, longest_listing_table()), (4002, 5919)),
     ] {
         let text = design.text();

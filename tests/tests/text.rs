@@ -1,18 +1,20 @@
 //! The reading call and the text call against the evaluator's own reader, search and writer.
 
 use outside_cases::check::{Verdict, check};
-use outside_cases::class::Class;
+use outside_cases::class::{Class, Members};
 use outside_cases::evaluator::{Refusal, places};
 use outside_cases::family::Family;
 use outside_cases::kronecker::{Kinds, order};
-use outside_cases::lent::{run_compile, run_read};
+use outside_cases::lent::{listed, run_compile, run_read, written};
 use outside_cases::marked::families::{COMPARED, Compared, EXAMPLE_TWO, OUTPUTS};
 use outside_cases::marked::{EXAMPLE, accepted, bytes, refused};
 use outside_cases::seeded::Seeded;
-use outside_cases::seeded::tables::{any_table, every_table, longest_listing_table, random_table};
+use outside_cases::seeded::tables::{
+    any_table, every_table, longest_free_listing_table, longest_listing_table, random_table,
+};
 use outside_cases::seeded::texts::{
-    K_FIELDS, TELLING_BYTES, WORD_ENDS, damaged_text, kronecker_text, sound_text, sound_text_of,
-    with_k_somewhere, with_other_word,
+    F_FIELDS, K_FIELDS, TELLING_BYTES, WORD_ENDS, damaged_text, free_text_of, kronecker_text,
+    sound_text, sound_text_of, with_f_somewhere, with_k_somewhere, with_other_k, with_other_word,
 };
 use outside_cases::text::kron::KronListing;
 use outside_cases::text::listing::Listing;
@@ -63,7 +65,7 @@ fn check_output(
 /// What the written listing's own lines say is the table, and the counts are theirs.
 fn check_lines(text: &[u8], written: &[u8]) {
     let design = read(text).expect("the text is accepted");
-    if let Kind::Block(_) = design.kind {
+    if let Kind::Mixed(_) = design.kind {
         assert_eq!(check(text, written), Ok(Verdict::Same), "{}", text.escape_ascii());
         return;
     }
@@ -119,16 +121,19 @@ fn sound_texts_of_every_size() {
 #[test]
 fn every_first_line() {
     let mut seeded = Seeded::new(44);
-    for (n, m) in (b'0'..=b'9').flat_map(|n| (b'0'..=b'9').map(move |m| (n, m))) {
-        for k in (b'0'..=b'9').chain(*b"-K") {
-            for word in Family::ALL.map(|family| family.table_word().as_bytes()) {
-                let first = [word, &[b'\t', n, b'\t', m, b'\t', k], b"\n"].concat();
-                let outputs = vec![b'1'; usize::from(m - b'0')];
-                let on = [&b"on\t1\t"[..], &outputs, b"\n"].concat();
-                check_read(&mut seeded, &[&first, &on[..], b"end\n"].concat(), 256);
-                check_read(&mut seeded, &[&first, &b"end\n"[..]].concat(), 256);
-                if n < b'4' {
-                    check_text(&mut seeded, &[&first, &on[..], b"end\n"].concat());
+    let digits = (0..10).map(|digit| digit.to_string());
+    let free = (0..10).map(|digit| format!("f{digit}"));
+    let fields: Vec<String> =
+        digits.chain(free).chain(["-", "K", "f"].map(str::to_string)).collect();
+    for (n, m) in (0..10).flat_map(|n| (0..10).map(move |m| (n, m))) {
+        for k in &fields {
+            for word in Family::ALL.map(Family::table_word) {
+                let (first, outputs) = (format!("{word}\t{n}\t{m}\t{k}\n"), "1".repeat(m));
+                let text = format!("{first}on\t1\t{outputs}\nend\n");
+                check_read(&mut seeded, text.as_bytes(), 256);
+                check_read(&mut seeded, format!("{first}end\n").as_bytes(), 256);
+                if n < 4 {
+                    check_text(&mut seeded, text.as_bytes());
                 }
             }
         }
@@ -145,10 +150,14 @@ fn damaged_texts() {
     }
 }
 
-/// Small texts, one with several lines, one with three digits in a point, and one of family two.
-fn small_texts() -> [Vec<u8>; 4] {
+/// A small text of the free class.
+const FREE: &[u8] = b"table 3 2 f2\non 5 10\non 6 01\non 7 10\nend\n";
+
+/// Small texts, one with several lines, one with three digits in a point, one of family two and one of the free
+/// class.
+fn small_texts() -> [Vec<u8>; 5] {
     let three_digits = b"table 8 3 0\non 128 010\nend\n";
-    [EXAMPLE, b"table 3 1 -\non 0 1\non 7 1\nend\n", three_digits, EXAMPLE_TWO].map(bytes)
+    [EXAMPLE, b"table 3 1 -\non 0 1\non 7 1\nend\n", three_digits, EXAMPLE_TWO, FREE].map(bytes)
 }
 
 #[test]
@@ -159,11 +168,11 @@ fn cut_at_every_place() {
     }
 }
 
-/// Every byte of a small text of each family changed into every other.
+/// Every byte of a small text of each family and of the free class changed into every other.
 #[test]
 fn every_byte_changed() {
     let mut seeded = Seeded::new(47);
-    for text in [EXAMPLE, EXAMPLE_TWO].map(bytes) {
+    for text in [EXAMPLE, EXAMPLE_TWO, FREE].map(bytes) {
         for place in 0..text.len() {
             for byte in 0..=255 {
                 let mut changed = text.clone();
@@ -197,8 +206,13 @@ fn every_place_edited() {
 #[test]
 fn long_texts() {
     let mut seeded = Seeded::new(49);
-    for (family, longest) in [(Family::One, 4002), (Family::Two, 4003)] {
-        let text = Design::block(8, 8, 3, vec![255; 256]).of_family(family).text();
+    for (family, class, longest) in [
+        (Family::One, Class::Block(3), 4002),
+        (Family::Two, Class::Block(3), 4003),
+        (Family::One, Class::Free(2), 4003),
+        (Family::Two, Class::Free(2), 4004),
+    ] {
+        let text = Design::of_class(8, 8, class, vec![255; 256]).of_family(family).text();
         assert_eq!(text.len(), longest);
         check_text(&mut seeded, &text);
         for length in (0..text.len()).step_by(61) {
@@ -265,16 +279,24 @@ fn table_lengths() {
     }
 }
 
-/// The longest listing of each family, all 255 products besides the constant with eight outputs and an i of three
-/// digits; and with `K`, all 256 products.
+/// The longest listing of each family and each k field: all 255 products besides the constant, with eight outputs and
+/// an i of three digits, and at `f2` an M of three digits too; and with `K`, all 256 products.
 #[test]
 fn longest_listing() {
     let mut seeded = Seeded::new(53);
-    let block = |k| Design::block(8, 8, k, longest_listing_table());
-    let one = (0..=3).map(|k| (block(k), 5908));
-    let two = (0..=3).map(|k| (block(k).of_family(Family::Two), 5909));
+    let of_class = |class, longest| {
+        let table = match class {
+            Class::Free(2) => longest_free_listing_table(),
+            _ => longest_listing_table(),
+        };
+        let design = Design::of_class(8, 8, class, table);
+        [(design.clone(), longest), (design.of_family(Family::Two), longest + 1)]
+    };
+    let digits = Class::every_block(8).flat_map(|class| of_class(class, 5908));
+    let free = Class::every_free(8).zip([5909, 5909, 5911]);
+    let free = free.flat_map(|(class, longest)| of_class(class, longest));
     let kronecker = (Design::kronecker(8, 8, longest_listing_table()), 5919);
-    for (design, longest) in one.chain(two).chain([kronecker]) {
+    for (design, longest) in digits.chain(free).chain([kronecker]) {
         let text = design.text();
         let compiled = compile(&text);
         assert_eq!(compiled.as_ref().map_or(0, Vec::len), longest);
@@ -288,9 +310,9 @@ fn longest_listing() {
 #[test]
 fn full_tables() {
     let mut seeded = Seeded::new(54);
-    for (k, field) in [(0, "0"), (1, "1"), (1, "-"), (2, "2"), (3, "3")] {
+    for field in ["0", "1", "-", "2", "3", "f0", "f1", "f2"] {
         for m in [1, 8] {
-            let design = Design::block(8, m, k, random_table(&mut seeded, 8, m));
+            let design = Design::block(8, m, 0, random_table(&mut seeded, 8, m));
             for family in Family::ALL {
                 check_text(&mut seeded, &design.clone().of_family(family).text_with(field));
             }
@@ -342,9 +364,7 @@ fn kronecker_rivals() {
         for _ in 0..100 {
             let m = seeded.within(1, 8);
             let design = Design::kronecker(n, m, any_table(&mut seeded, n, m));
-            let (answer, output) = run_compile(&design.text(), &[0; 6000]);
-            let written = KronListing::read(&output.inside()[..answer[2] as usize]);
-            let ours = written.expect("a sound listing");
+            let ours = KronListing::read(&written(&design.text())).expect("a sound listing");
             for rival in kinds.rivals(&design.table) {
                 assert_eq!(rival.table(), design.table);
                 let [ours, rival] =
@@ -369,14 +389,26 @@ fn damaged_kronecker_texts() {
 /// A `K`, or nearly so, in every field of every line, and at every place of a text.
 #[test]
 fn k_everywhere() {
-    let mut seeded = Seeded::new(60);
     let with_k = b"table 2 2 K\non 0 01\non 3 10\nend\n";
-    for text in [EXAMPLE, with_k, EXAMPLE_TWO].map(bytes) {
+    letter_everywhere(60, &[EXAMPLE, with_k, EXAMPLE_TWO], b"K", &K_FIELDS);
+}
+
+/// An `f` field, or nearly so, in every field of every line, and an `f` at every place of a text.
+#[test]
+fn f_everywhere() {
+    let one_input = b"table 1 2 1\non 0 01\nend\n";
+    letter_everywhere(68, &[EXAMPLE, one_input, EXAMPLE_TWO, FREE], b"f", &F_FIELDS);
+}
+
+/// These fields in every field of every line, and this letter at every place of each text.
+fn letter_everywhere(seed: u64, texts: &[&[u8]], letter: &[u8], others: &[&str]) {
+    let mut seeded = Seeded::new(seed);
+    for text in texts.iter().map(|text| bytes(text)) {
         let lines: Vec<&[u8]> = text.split_inclusive(|&byte| byte == b'\n').collect();
         for (place, line) in lines.iter().enumerate() {
             let fields: Vec<&[u8]> = line[..line.len() - 1].split(|&byte| byte == 9).collect();
             for field in 0..fields.len() {
-                for other in K_FIELDS {
+                for other in others {
                     let mut fields = fields.clone();
                     fields[field] = other.as_bytes();
                     let line = [fields.join(&b"\t"[..]), b"\n".to_vec()].concat();
@@ -389,8 +421,8 @@ fn k_everywhere() {
         for place in 0..text.len() {
             let (before, after) = text.split_at(place);
             check_text(&mut seeded, before);
-            check_text(&mut seeded, &[before, b"K", after].concat());
-            check_text(&mut seeded, &[before, b"K", &after[1..]].concat());
+            check_text(&mut seeded, &[before, letter, after].concat());
+            check_text(&mut seeded, &[before, letter, &after[1..]].concat());
         }
     }
 }
@@ -421,18 +453,9 @@ fn compared_designs() {
             let design = Design::block(n, OUTPUTS, k, table.to_vec()).of_family(family);
             let text = design.text();
             check_text(&mut seeded, &text);
-            let Listing { mixed, fixed, stated, inverted, .. } = listed(&design, &text);
-            let found = [mixed, fixed, stated.products, stated.literals, usize::from(inverted)];
-            assert_eq!(found, figures, "{design:?}");
+            assert_eq!(listed(&design).figures(), figures, "{design:?}");
         }
     }
-}
-
-/// The listing that the text call writes, as it is read.
-fn listed(design: &Design, text: &[u8]) -> Listing {
-    let (answer, output) = run_compile(text, &[0; 6000]);
-    let written = &output.inside()[..answer[2] as usize];
-    Listing::read(design, written).expect("a sound listing")
 }
 
 /// The call's listing is before every rival in its family's order: each member with each inversion mask that
@@ -441,34 +464,32 @@ fn listed(design: &Design, text: &[u8]) -> Listing {
 fn family_rivals() {
     let mut seeded = Seeded::new(63);
     for n in 1..=4usize {
-        for k in 0..=n.min(3) {
-            let class = Class::new(n, k);
+        for class in Class::every(n).filter(|&class| Members::few(n, class)) {
+            let members = Members::new(n, class);
             for _ in 0..12 {
-                let m = seeded.within(1, class.most_outputs());
-                let design = Design::block(n, m, k, any_table(&mut seeded, n, m));
+                let m = seeded.within(1, members.most_outputs());
+                let design = Design::of_class(n, m, class, any_table(&mut seeded, n, m));
                 for family in Family::ALL {
-                    let design = design.clone().of_family(family);
-                    let written = listed(&design, &design.text());
+                    let written = listed(&design.clone().of_family(family));
                     let Listing { mixed, fixed, inverted, .. } = written;
                     let ours = (family.order(written.counted()), inverted, mixed, fixed);
-                    assert!(
-                        class.rivals(m, &design.table).all(|rival| ours <= rival.order(family))
-                    );
+                    let mut rivals = members.rivals(m, &design.table);
+                    assert!(rivals.all(|rival| ours <= rival.order(family)));
                 }
             }
         }
     }
 }
 
-/// Texts of family two of every n and k, with tables of each sort.
+/// Texts of family two of every n, class and k, with tables of each sort.
 #[test]
 fn family_texts_of_every_size() {
     let mut seeded = Seeded::new(64);
     for n in 1..=8usize {
-        for k in 0..=n.min(3) {
+        for class in Class::every(n) {
             for table in [any_table, random_table] {
                 let m = seeded.within(1, 8);
-                let design = Design::block(n, m, k, table(&mut seeded, n, m));
+                let design = Design::of_class(n, m, class, table(&mut seeded, n, m));
                 check_text(&mut seeded, &design.of_family(Family::Two).text());
             }
         }
@@ -481,7 +502,18 @@ fn words_around() {
     let mut seeded = Seeded::new(65);
     for end in WORD_ENDS {
         for stem in ["table", "Table", "tabl", "form", ""] {
-            for (n, k) in [(2, "1"), (2, "-"), (2, "K"), (9, "1"), (9, "K"), (2, "3"), (2, "x")] {
+            for (n, k) in [
+                (2, "1"),
+                (2, "-"),
+                (2, "K"),
+                (2, "f2"),
+                (9, "1"),
+                (9, "K"),
+                (9, "f2"),
+                (2, "3"),
+                (2, "f3"),
+                (2, "x"),
+            ] {
                 let text = format!("{stem}{end}\t{n}\t2\t{k}\non\t3\t01\nend\n");
                 check_text(&mut seeded, text.as_bytes());
             }
@@ -504,5 +536,34 @@ fn damaged_family_texts() {
         let damage = [damaged_text, with_k_somewhere, with_other_word][round % 3];
         let damaged = damage(&mut seeded, &text);
         check_text(&mut seeded, &damaged);
+    }
+}
+
+/// The free class of either family with damage, with an `f` somewhere, and with other k fields.
+#[test]
+fn damaged_free_texts() {
+    let mut seeded = Seeded::new(67);
+    for round in 0..4000 {
+        let (family, most) = (Family::ALL[round % 2], if round % 50 == 0 { 6 } else { 3 });
+        let (_, text) = free_text_of(&mut seeded, family, most);
+        let damage = [damaged_text, with_f_somewhere, with_other_k, with_other_word][round % 4];
+        let damaged = damage(&mut seeded, &text);
+        check_text(&mut seeded, &damaged);
+    }
+}
+
+/// Every table of at most two inputs and two outputs with every `f` field, in both families.
+#[test]
+fn every_small_free_table() {
+    let mut seeded = Seeded::new(69);
+    for (n, m) in [(1, 1), (1, 2), (2, 1), (2, 2)] {
+        for (table, class) in every_table(n, m)
+            .flat_map(|table| Class::every_free(n).map(move |c| (table.clone(), c)))
+        {
+            let design = Design::of_class(n, m, class, table);
+            for family in Family::ALL {
+                check_text(&mut seeded, &design.clone().of_family(family).text());
+            }
+        }
     }
 }

@@ -1,9 +1,10 @@
 //! Times the minimising call, which keeps to family one, beside the same method in C (`c/search.c`); then the
-//! text call on texts of both families, beside the C code of each. The text call's time includes reading the
-//! text and writing the listing, which the C code does not do. Prints microseconds for a design, the C code's
-//! and the ratio, the best of several repeats.
+//! text call on texts of both families and both classes, beside the C code of each. The text call's time includes
+//! reading the text and writing the listing, which the C code does not do. Prints microseconds for a design, the C
+//! code's and the ratio, the best of several repeats.
 
 use outside_cases::calls::{self, MinimiseAnswer};
+use outside_cases::class::Class;
 use outside_cases::family::Family;
 use outside_cases::seeded::Seeded;
 use outside_cases::seeded::tables::{random_table, sparse_table, structured_table};
@@ -52,11 +53,8 @@ const ROOM: usize = 6000;
 
 /// The M, i, products, literals and inversion mask that the C code finds for a text.
 fn in_c(text: &Text) -> [usize; 5] {
-    let (mut coefficients, mut blocks) =
-        (vec![0; places(text.n)], vec![0; places(text.n - text.k())]);
-    let (sizes, mut answer) = ([text.n, text.m, text.k()], MinimiseAnswer::default());
-    let table = black_box(&text.table[..]);
-    c_search::minimise_for(text.family, sizes, table, &mut coefficients, &mut blocks, &mut answer);
+    let (sizes, table) = ([text.n, text.m], black_box(&text.table[..]));
+    let (_, _, answer) = c_search::found(text.family, text.class(), sizes, table);
     [2, 3, 4, 5, 6].map(|place| answer[place] as usize)
 }
 
@@ -72,15 +70,18 @@ fn text_seconds(text: &Text) -> [f64; 2] {
     side_by_side(15, 8, [&mut call, &mut || assert!(black_box(in_c(text))[2] <= 256)])
 }
 
-/// The text call at eight inputs and outputs, for both families and at every k.
+/// The text call at eight inputs and outputs, for both families and with every k field.
 fn texts(seeded: &mut Seeded) {
     println!("family k sort\tmicroseconds\tC\tratio");
     for (sort, maker) in SORTS {
         let table = maker(seeded, 8, 8);
-        for (family, k) in Family::ALL.into_iter().flat_map(|f| (0..=3).map(move |k| (f, k))) {
-            let text = Text::block(8, 8, k, table.clone()).of_family(family);
+        for (family, class) in
+            Family::ALL.into_iter().flat_map(|f| Class::every(8).map(move |c| (f, c)))
+        {
+            let text = Text::of_class(8, 8, class, table.clone()).of_family(family);
             let [call, c] = text_seconds(&text).map(|seconds| seconds * 1e6);
-            println!("{} {k} {sort}\t{call:.1}\t{c:.1}\t{:.2}", family.number(), call / c);
+            let (number, k) = (family.number(), text.kind.field());
+            println!("{number} {k} {sort}\t{call:.1}\t{c:.1}\t{:.2}", call / c);
         }
     }
 }

@@ -5,7 +5,7 @@ use std::path::Path;
 use std::{env, fs, io};
 
 /// More than the cases need, so that a file that grew by mistake is seen.
-const STDIN_LIMIT: usize = 256 * 1024;
+const STDIN_LIMIT: usize = 384 * 1024;
 
 fn main() -> io::Result<()> {
     let directory = env::args().nth(1).expect("the directory to write into is the first argument");

@@ -1,8 +1,7 @@
 //! Designs on which the order of costs decides, with the answers of both families, and texts that begin with
 //! `table2` on both sides of each refusal. The texts are written as the others are, with a space for each tab.
 
-/// M, i, products, literals, inversion mask.
-pub type Figures = [usize; 5];
+use crate::class::Figures;
 
 /// A design of two outputs with the answers of both families at one k. Tables of fewer than four inputs, or of
 /// four inputs and one output, have the same answers in both.
@@ -156,7 +155,7 @@ pub const REFUSED: [(&[u8], u64, u64); 60] = [
     (b"table2 2 2 01\nend\n", 1, 1),
     (b"table2 2 2 --\nend\n", 1, 1),
     (b"table2 2 2 T\nend\n", 1, 1),
-    (b"table2 2 2 f1\nend\n", 1, 1),
+    (b"table2 2 2 F1\nend\n", 1, 1),
     // `K` is for `table` only, whatever n, m and the later lines are.
     (b"table2 2 2 K\nend\n", 1, 1),
     (b"table2 8 8 K\nend\n", 1, 1),
@@ -194,25 +193,21 @@ pub const REFUSED: [(&[u8], u64, u64); 60] = [
 #[cfg(test)]
 mod tests {
     use super::*;
-    use crate::class::{Class, Expansion, least};
+    use crate::class::{Class, Expansion, Members, least};
     use crate::family::Family;
-
-    fn figures(e: &Expansion) -> Figures {
-        let inverted = usize::from(e.inverted);
-        [e.member.mixed, e.member.fixed, e.cost.products, e.cost.literals, inverted]
-    }
 
     /// The answers of both families, with four inputs by both searches.
     #[test]
     fn designs() {
         for Compared { n, k, table, one, two, .. } in COMPARED {
-            let class = (n == 4).then(|| Class::new(n, k));
+            let class = Class::Block(k);
+            let members = (n == 4).then(|| Members::new(n, class));
             for (family, wanted) in [(Family::One, one), (Family::Two, two)] {
-                let found = least(family, n, k, table);
-                assert_eq!(figures(&found), wanted, "{family:?}, k = {k}, {table:?}");
+                let found = least(family, n, class, table);
+                assert_eq!(found.figures(), wanted, "{family:?}, k = {k}, {table:?}");
                 assert_eq!(found.table(n), table);
-                if let Some(class) = &class {
-                    assert_eq!(found, class.least(family, OUTPUTS, table));
+                if let Some(members) = &members {
+                    assert_eq!(found, members.least(family, OUTPUTS, table));
                 }
             }
         }
@@ -224,13 +219,14 @@ mod tests {
     fn misreadings() {
         for Compared { n, k, table, one, two, misread } in COMPARED {
             let Some(misread) = misread else { continue };
-            let rivals: Vec<Expansion> = Class::new(n, k).rivals(OUTPUTS, table).collect();
+            let members = Members::new(n, Class::Block(k));
+            let rivals: Vec<Expansion> = members.rivals(OUTPUTS, table).collect();
             let first = |weighed: fn(usize, usize) -> [usize; 2]| {
                 let key = |e: &Expansion| {
                     let order = weighed(e.cost.products, e.cost.literals);
                     (order, e.inverted, e.member.mixed, e.member.fixed)
                 };
-                figures(rivals.iter().min_by_key(|e| key(e)).expect("a class is not empty"))
+                rivals.iter().min_by_key(|e| key(e)).expect("a class is not empty").figures()
             };
             assert_eq!(first(|products, literals| [4 * products + literals, literals]), misread);
             assert_eq!(first(|products, literals| [3 * products + literals, products]), misread);
@@ -244,9 +240,9 @@ mod tests {
         use crate::seeded::tables::every_table;
         for (n, m) in [(1, 1), (1, 2), (1, 3), (2, 1), (2, 2), (2, 3), (3, 1)] {
             for table in every_table(n, m) {
-                for k in 0..=n {
-                    let [one, two] = Family::ALL.map(|family| least(family, n, k, &table));
-                    assert_eq!(one, two, "n = {n}, k = {k}, {table:?}");
+                for class in Class::every(n) {
+                    let [one, two] = Family::ALL.map(|family| least(family, n, class, &table));
+                    assert_eq!(one, two, "n = {n}, {class:?}, {table:?}");
                 }
             }
         }

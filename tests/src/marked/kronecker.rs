@@ -166,7 +166,7 @@ pub const REFUSED: [(&[u8], u64, u64); 34] = [
 #[cfg(test)]
 mod tests {
     use super::*;
-    use crate::class;
+    use crate::class::{self, Class};
     use crate::family::Family;
     use crate::kronecker::{Kinds, least};
 
@@ -174,7 +174,7 @@ mod tests {
     fn designs_beside_every_k() {
         for Compared { n, table, digits, letters, kronecker } in COMPARED {
             for (k, &figures) in digits.iter().enumerate() {
-                let cost = class::least(Family::One, n, k, table).cost;
+                let cost = class::least(Family::One, n, Class::Block(k), table).cost;
                 assert_eq!([cost.products, cost.literals], figures, "k = {k}, {table:?}");
             }
             assert_eq!(digits.len(), 1 + n.min(3));

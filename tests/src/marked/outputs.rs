@@ -1,8 +1,9 @@
 //! Designs with a choice of their outputs, and what the whole and the chosen outputs cost; and pairs of designs that
 //! W-206 does not compare, the second dearer than the first.
 
+use super::free::NEITHER_UNDER_X3;
 use super::{TWO_OF_THREE, UNDER_X3};
-use crate::class::Cost;
+use crate::class::{Class, Cost};
 use crate::family::Family;
 use crate::outputs::Choice;
 use crate::text::{Design, Kind};
@@ -47,11 +48,25 @@ const fn none_and_two(family: Family, kind: Kind) -> Chosen {
     Chosen { whole, bits: 0b10, cost: Cost::new(3, 7) }
 }
 
-/// The chosen outputs cost less and have more literals. The charges in family two are 22 and 19.
-pub const MORE_LITERALS: [Chosen; 3] = [
-    none_and_two(Family::One, Kind::Block(1)),
+/// Two outputs of four inputs. At `f2` the whole has five products, and output 0 by itself four with a literal more.
+const FOUR_INPUTS: &[u8] = &[1, 1, 0, 0, 0, 0, 1, 1, 2, 0, 2, 1, 0, 1, 0, 0];
+
+const fn four_inputs(family: Family) -> Chosen {
+    let (kind, table) = (Kind::Mixed(Class::Free(2)), FOUR_INPUTS);
+    let whole = Costed { family, n: 4, m: 2, kind, table, cost: Cost::new(5, 9) };
+    Chosen { whole, bits: 0b01, cost: Cost::new(4, 10) }
+}
+
+/// The chosen outputs cost less and have more literals. The charges in family two are 22 and 19, and those of the last
+/// design 29 and 26.
+pub const MORE_LITERALS: [Chosen; 7] = [
+    none_and_two(Family::One, Kind::Mixed(Class::Block(1))),
     none_and_two(Family::One, Kind::Kronecker),
-    none_and_two(Family::Two, Kind::Block(1)),
+    none_and_two(Family::Two, Kind::Mixed(Class::Block(1))),
+    none_and_two(Family::One, Kind::Mixed(Class::Free(1))),
+    none_and_two(Family::Two, Kind::Mixed(Class::Free(1))),
+    four_inputs(Family::One),
+    four_inputs(Family::Two),
 ];
 
 /// A design of four inputs on which the families choose differently, and the same with x1 and x2 as output 2.
@@ -59,7 +74,7 @@ const DIFFERENT: &[u8] = &[0, 0, 0, 2, 0, 0, 3, 0, 0, 2, 3, 1, 0, 3, 1, 2];
 const DIFFERENT_AND_X1_X2: &[u8] = &[0, 0, 0, 6, 0, 0, 3, 4, 0, 2, 3, 5, 0, 3, 1, 6];
 
 const fn different(family: Family, m: usize, table: &'static [u8], cost: Cost) -> Costed {
-    Costed { family, n: 4, m, kind: Kind::Block(0), table, cost }
+    Costed { family, n: 4, m, kind: Kind::Mixed(Class::Block(0)), table, cost }
 }
 
 /// The chosen outputs cost less and have more products: the charges are 60 and 59. With all literals plain, output 2
@@ -71,7 +86,14 @@ pub const MORE_PRODUCTS: Chosen = Chosen {
 };
 
 const fn under_x3(k: usize, cost: Cost) -> Costed {
-    Costed { family: Family::One, n: 3, m: 2, kind: Kind::Block(k), table: UNDER_X3, cost }
+    Costed {
+        family: Family::One,
+        n: 3,
+        m: 2,
+        kind: Kind::Mixed(Class::Block(k)),
+        table: UNDER_X3,
+        cost,
+    }
 }
 
 /// Two outputs, and a single output of another table.
@@ -81,7 +103,7 @@ pub const ANOTHER_TABLE: [Costed; 2] = [
         family: Family::One,
         n: 3,
         m: 1,
-        kind: Kind::Block(1),
+        kind: Kind::Mixed(Class::Block(1)),
         table: TWO_OF_THREE,
         cost: Cost::new(3, 7),
     },
@@ -89,6 +111,17 @@ pub const ANOTHER_TABLE: [Costed; 2] = [
 
 /// The same outputs at another k.
 pub const ANOTHER_K: [Costed; 2] = [under_x3(1, Cost::new(2, 5)), under_x3(3, Cost::new(3, 6))];
+
+const fn neither_under_x3(class: Class, cost: Cost) -> Costed {
+    let (kind, table) = (Kind::Mixed(class), NEITHER_UNDER_X3);
+    Costed { family: Family::One, n: 3, m: 3, kind, table, cost }
+}
+
+/// The same outputs in the block class with as many mixed inputs.
+pub const ANOTHER_CLASS: [Costed; 2] = [
+    neither_under_x3(Class::Free(2), Cost::new(3, 7)),
+    neither_under_x3(Class::Block(2), Cost::new(4, 8)),
+];
 
 /// The same outputs in the other family, dearer in the first one's order.
 pub const ANOTHER_FAMILY: [Costed; 2] = [
@@ -99,7 +132,7 @@ pub const ANOTHER_FAMILY: [Costed; 2] = [
 #[cfg(test)]
 mod tests {
     use super::*;
-    use crate::class::{self, Class};
+    use crate::class::{self, Members};
     use crate::kronecker::{self, Kinds};
     use crate::seeded::tables::table_of;
     use std::iter::chain;
@@ -107,10 +140,11 @@ mod tests {
     /// The least cost of a design, by both searches where both run.
     fn least_cost(Design { family, n, m, kind, table }: &Design) -> Cost {
         match *kind {
-            Kind::Block(k) => {
-                let (found, class) = (class::least(*family, *n, k, table), Class::new(*n, k));
-                if *m <= class.most_outputs() {
-                    assert_eq!(found, class.least(*family, *m, table));
+            Kind::Mixed(class) => {
+                let found = class::least(*family, *n, class, table);
+                let members = Members::few(*n, class).then(|| Members::new(*n, class));
+                if let Some(members) = members.filter(|members| *m <= members.most_outputs()) {
+                    assert_eq!(found, members.least(*family, *m, table));
                 }
                 found.cost
             }
@@ -134,7 +168,9 @@ mod tests {
 
     #[test]
     fn other_designs() {
-        for costed in [ANOTHER_TABLE, ANOTHER_K, ANOTHER_FAMILY].into_iter().flatten() {
+        for costed in
+            [ANOTHER_TABLE, ANOTHER_K, ANOTHER_CLASS, ANOTHER_FAMILY].into_iter().flatten()
+        {
             assert_eq!(least_cost(&costed.design()), costed.cost, "{:?}", costed.design());
         }
     }

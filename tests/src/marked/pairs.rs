@@ -2,21 +2,21 @@
 //! refusals 11 and 12 and their order, the class, and the points. They are written as the texts are, with a
 //! space for each tab.
 
-use super::EXAMPLE;
 use super::families::{EXAMPLE_LISTING_TWO, EXAMPLE_TWO};
+use super::{EXAMPLE, free};
 use crate::calls::CheckAnswer;
 
 /// A table text, a listing, and the numbers of the answer.
 pub type MarkedPair = (&'static [u8], &'static [u8], CheckAnswer);
 
-const SAME: CheckAnswer = [0, 0, 1, 0];
-const NOT_OF_CLASS: CheckAnswer = [0, 0, 3, 0];
+pub(super) const SAME: CheckAnswer = [0, 0, 1, 0];
+pub(super) const NOT_OF_CLASS: CheckAnswer = [0, 0, 3, 0];
 
-const fn differs(point: u64) -> CheckAnswer {
+pub(super) const fn differs(point: u64) -> CheckAnswer {
     [0, 0, 2, point]
 }
 
-const fn refused(number: u64, line: u64) -> CheckAnswer {
+pub(super) const fn refused(number: u64, line: u64) -> CheckAnswer {
     [number, line, 0, 0]
 }
 
@@ -229,7 +229,7 @@ pub const REFUSED_LISTINGS: [MarkedPair; 98] = [
     (EXAMPLE, b"form 10002 2 1 1 2 2 2\nend\n", refused(11, 1)),
     (EXAMPLE, b"form 2 2 - 1 2 2 2\nend\n", refused(11, 1)),
     (EXAMPLE, b"form 2 2 K 1 2 2 2\nend\n", refused(11, 1)),
-    (EXAMPLE, b"form 2 2 f1 1 2 2 2\nend\n", refused(11, 1)),
+    (EXAMPLE, b"form 2 2 F1 1 2 2 2\nend\n", refused(11, 1)),
     (EXAMPLE, b"form 2 2 11 1 2 2 2\nend\n", refused(11, 1)),
     (EXAMPLE, b"form 2 2 01 1 2 2 2\nend\n", refused(11, 1)),
     (EXAMPLE, b"form 2 2  1 2 2 2\nend\n", refused(11, 1)),
@@ -482,7 +482,7 @@ pub const FAMILIES: [MarkedPair; 74] = [
 pub fn all() -> impl Iterator<Item = MarkedPair> {
     let refused = REFUSED_LISTINGS.into_iter().chain(REFUSED_TABLES);
     let judged = JUDGED.into_iter().chain(INVERTERS);
-    judged.chain(refused).chain(KRONECKER).chain(FAMILIES)
+    judged.chain(refused).chain(KRONECKER).chain(FAMILIES).chain(free::PAIRS)
 }
 
 #[cfg(test)]

@@ -3,18 +3,19 @@
 use super::Seeded;
 use super::tables::{any_table, output_bits};
 use super::texts::TELLING_BYTES;
-use crate::class::{Expansion, Member, fixed_polarities, mixed_sets};
+use crate::class::{Class, Expansion, Member, fixed_polarities, mixed_sets};
 use crate::evaluator::places;
 use crate::text::Design;
 use crate::text::listing::Listing;
 use crate::text::products::Product;
 
-/// Any member of the class.
-pub fn any_member(seeded: &mut Seeded, n: usize, k: usize) -> Member {
-    let mixed = *seeded.pick(&mixed_sets(n, k).collect::<Vec<usize>>());
+/// Any member of a class.
+pub fn any_member(seeded: &mut Seeded, n: usize, class: Class) -> Member {
+    let mixed = *seeded.pick(&mixed_sets(n, class.k()).collect::<Vec<usize>>());
     let fixed = *seeded.pick(&fixed_polarities(n, mixed).collect::<Vec<usize>>());
-    let blocks = (0..places(n - k)).map(|_| seeded.below(places(k))).collect();
-    Member { mixed, fixed, blocks }
+    let polarity = |_| seeded.below(places(class.k()));
+    let polarities = (0..class.polarities(n)).map(polarity).collect();
+    Member { class, mixed, fixed, polarities }
 }
 
 /// Any inversion mask of m outputs, once in three draws none inverted.
@@ -24,7 +25,7 @@ pub fn any_mask(seeded: &mut Seeded, m: usize) -> u8 {
 
 /// Any member of the class and any mask, with the coefficients that give the design's table.
 pub fn any_expansion(seeded: &mut Seeded, design: &Design) -> Expansion {
-    let member = any_member(seeded, design.n, design.k());
+    let member = any_member(seeded, design.n, design.class());
     let inverted = any_mask(seeded, design.m);
     Expansion::giving(design.n, member, inverted, &design.table)
 }
@@ -37,8 +38,8 @@ pub fn any_listing(seeded: &mut Seeded, design: &Design) -> Listing {
 /// The listing of any member with any coefficients and any mask, in half of the draws with a literal
 /// complemented.
 pub fn drawn_listing(seeded: &mut Seeded, design: &Design) -> Listing {
-    let (n, m, k) = (design.n, design.m, design.k());
-    let (member, coefficients) = (any_member(seeded, n, k), any_table(seeded, n, m));
+    let (n, m, class) = (design.n, design.m, design.class());
+    let (member, coefficients) = (any_member(seeded, n, class), any_table(seeded, n, m));
     let inverted = any_mask(seeded, m);
     let mut listing = Listing::of(design, &Expansion::new(n, member, coefficients, inverted));
     if seeded.once_in(2) {
@@ -49,8 +50,8 @@ pub fn drawn_listing(seeded: &mut Seeded, design: &Design) -> Listing {
 
 /// The listing with no `term` line and any mask, and any numbers for M and i.
 pub fn empty_listing(seeded: &mut Seeded, design: &Design) -> Listing {
-    let (n, m, k) = (design.n, design.m, design.k());
-    let (member, inverted) = (any_member(seeded, n, k), any_mask(seeded, m));
+    let (n, m, class) = (design.n, design.m, design.class());
+    let (member, inverted) = (any_member(seeded, n, class), any_mask(seeded, m));
     let nothing = Expansion::new(n, member, vec![0; places(n)], inverted);
     let mut listing = Listing::of(design, &nothing);
     if !seeded.once_in(3) {
@@ -83,12 +84,36 @@ pub fn change_cube(seeded: &mut Seeded, listing: &mut Listing) {
 fn complement_literal(seeded: &mut Seeded, listing: &mut Listing) {
     if let Some(product) = any_product(seeded, listing) {
         let place = seeded.below(product.cube.len());
-        product.cube[place] = match product.cube[place] {
-            b'0' => b'1',
-            b'1' => b'0',
-            absent => absent,
-        };
+        complement(&mut product.cube[place]);
     }
+}
+
+/// Complements one literal of a chosen input, any that a cube has, and says whether there is one.
+pub fn complement_where(
+    seeded: &mut Seeded,
+    listing: &mut Listing,
+    chosen: impl Fn(usize) -> bool,
+) -> bool {
+    let n = listing.n;
+    let literals = listing.products.iter().enumerate().flat_map(|(number, product)| {
+        let shown = |&place: &usize| product.cube[place] != b'-' && chosen(n - place);
+        (0..n).filter(shown).map(move |place| (number, place)).collect::<Vec<_>>()
+    });
+    let literals: Vec<(usize, usize)> = literals.collect();
+    if !literals.is_empty() {
+        let (number, place) = *seeded.pick(&literals);
+        complement(&mut listing.products[number].cube[place]);
+    }
+    !literals.is_empty()
+}
+
+/// The other character of a literal.
+fn complement(character: &mut u8) {
+    *character = match *character {
+        b'0' => b'1',
+        b'1' => b'0',
+        absent => absent,
+    };
 }
 
 /// Changes one character of the outputs, which may leave them all `0`.
@@ -170,11 +195,11 @@ pub fn break_line(seeded: &mut Seeded, listing: &mut Listing) {
 
 /// Puts any number for M, for i, or for both: one that some member has, or one of up to four digits.
 pub fn change_polarities(seeded: &mut Seeded, listing: &mut Listing) {
-    let Listing { n, k, .. } = *listing;
+    let Listing { n, class, .. } = *listing;
     let limit = *seeded.pick(&[places(n), 2 * places(n), 10_000]);
     match seeded.below(4) {
         0 => {
-            let Member { mixed, fixed, .. } = any_member(seeded, n, k);
+            let Member { mixed, fixed, .. } = any_member(seeded, n, class);
             (listing.mixed, listing.fixed) = (mixed, fixed);
         }
         1 => {
@@ -186,20 +211,29 @@ pub fn change_polarities(seeded: &mut Seeded, listing: &mut Listing) {
     }
 }
 
-/// The bytes of a listing with another number for n, m or k on its first line. A k of two digits breaks
-/// the grammar.
+/// The bytes of a listing with another number for n, m or k on its first line, or with the same k of the other class.
+/// A k of two digits breaks the grammar.
 pub fn with_other_sizes(seeded: &mut Seeded, listing: &Listing) -> Vec<u8> {
     let mut first = listing.clone();
-    let size = match seeded.below(3) {
-        0 => &mut first.n,
-        1 => &mut first.m,
-        _ => &mut first.k,
-    };
     let limit = *seeded.pick(&[9, 12, 300]);
     let other = seeded.below(limit);
-    *size = if other >= *size { other + 1 } else { other };
+    let unlike = |size: usize| if other >= size { other + 1 } else { other };
+    match seeded.below(4) {
+        0 => first.n = unlike(first.n),
+        1 => first.m = unlike(first.m),
+        2 => first.class = first.class.with_k(unlike(first.class.k())),
+        _ => first.class = other_class(first.class),
+    }
     let (written, own) = (listing.bytes(), listing.first_line().len());
     [first.first_line().as_bytes(), &written[own..]].concat()
+}
+
+/// The other class with the same number of mixed inputs.
+pub fn other_class(class: Class) -> Class {
+    match class {
+        Class::Block(k) => Class::Free(k),
+        Class::Free(k) => Class::Block(k),
+    }
 }
 
 /// The bytes of a listing with one byte changed, dropped or put in: mostly a character of a cube, of outputs

@@ -93,13 +93,28 @@ fn few_cubes(seeded: &mut Seeded, n: usize, m: usize) -> Vec<u8> {
     })
 }
 
-/// A table of eight inputs and outputs whose listings are the longest. Byte p is a product of one factor for
-/// each input, in the field of 256 elements: 2 where the input is 0 and 1 where it is 1. A coefficient is then a
+/// A byte times 2^power, in the field of 256 elements where 2^8 is 29.
+fn times_power_of_2(byte: u8, power: usize) -> u8 {
+    let doubled = |byte: u8| (byte << 1) ^ if byte < 128 { 0 } else { 29 };
+    (0..power).fold(byte, |byte, _| doubled(byte))
+}
+
+/// A table of eight inputs and outputs whose listings are the longest, but at `f2`. Byte p is a product of one factor
+/// for each input, in the field of 256 elements: 2 where the input is 0 and 1 where it is 1. A coefficient is then a
 /// product of factors 1, 2 and 1 + 2, and never 0: a Kronecker expansion has all 256 products, and a member of the
 /// class all but the constant, which is the mask. The constant's coefficient is the byte at the point that its
 /// polarities name, so the least mask is the 1 at point 255: M is 2^k - 1, and i has all other inputs, a number
 /// of three digits.
 pub fn longest_listing_table() -> Vec<u8> {
-    const POWERS_OF_2: [u8; 9] = [1, 2, 4, 8, 16, 32, 64, 128, 29];
-    table_of(8, 8, |p| POWERS_OF_2[8 - literals(8, p)])
+    table_of(8, 8, |p| times_power_of_2(1, 8 - literals(8, p)))
+}
+
+/// A table of eight inputs and outputs whose listings at `f2` are the longest: M has three digits too. The rule is the
+/// same but for x8, whose factors are 4 where it is 0 and 3 where it is 1. In the free class the constant's
+/// coefficient can also be the exclusive OR of three of the four bytes of a block. With x1 and x8 mixed and all others
+/// complemented these bytes are 8, 4, 6 and 3, so the mask can be 4 + 6 + 3 = 1. Where x8 is not mixed, the mask is 1 or
+/// 7 times a power of 2, times 4 or 3, and never 1: M is 129 and i is 126.
+pub fn longest_free_listing_table() -> Vec<u8> {
+    let factor = |p| if holds(p, 8) { 3 } else { 4 };
+    table_of(8, 8, |p| times_power_of_2(factor(p), 7 - literals(7, p)))
 }

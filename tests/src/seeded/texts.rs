@@ -2,17 +2,28 @@
 
 use super::Seeded;
 use super::tables::any_table;
+use crate::class::Class;
 use crate::family::Family;
 use crate::text::Design;
 use std::ops::Range;
 
-/// A design of either family for the block class, of at most this many inputs, and its text.
+/// A design of either family for either class, of at most this many inputs, and its text.
 pub fn sound_text(seeded: &mut Seeded, most_inputs: usize) -> (Design, Vec<u8>) {
     let family = *seeded.pick(&Family::ALL);
-    sound_text_of(seeded, family, most_inputs)
+    let text = *seeded.pick(&[sound_text_of, free_text_of]);
+    text(seeded, family, most_inputs)
 }
 
-/// The same, of this family.
+/// The same of this family, for the free class.
+pub fn free_text_of(seeded: &mut Seeded, family: Family, most_inputs: usize) -> (Design, Vec<u8>) {
+    let (n, m) = (seeded.within(1, most_inputs), seeded.within(1, 8));
+    let class = *seeded.pick(&Class::every_free(n).collect::<Vec<Class>>());
+    let design = Design::of_class(n, m, class, any_table(seeded, n, m)).of_family(family);
+    let text = design.text();
+    (design, text)
+}
+
+/// The same of this family, for the block class.
 pub fn sound_text_of(seeded: &mut Seeded, family: Family, most_inputs: usize) -> (Design, Vec<u8>) {
     let n = seeded.within(1, most_inputs);
     let (m, k) = (seeded.within(1, 8), seeded.below(n.min(3) + 1));
@@ -46,14 +57,47 @@ pub const K_FIELDS: [&str; 12] =
 
 /// A text with one of `K_FIELDS` in a field, or with a byte changed into `K`.
 pub fn with_k_somewhere(seeded: &mut Seeded, text: &[u8]) -> Vec<u8> {
+    with_letter(seeded, text, b'K', &K_FIELDS)
+}
+
+/// Fields with an `f` in them, or nearly so: first those of the free class, then ones with a digit that is too large, then
+/// broken ones.
+pub const F_FIELDS: [&str; 24] = [
+    "f0", "f1", "f2", "f3", "f4", "f9", "f", "F1", "F2", "ff", "ff1", "f12", "f10", "f01", "f-",
+    "-f", "1f", "2f", "f1 ", " f2", "f\t1", "fK", "e1", "g2",
+];
+
+/// A text with one of `F_FIELDS` in a field, or with a byte changed into `f`.
+pub fn with_f_somewhere(seeded: &mut Seeded, text: &[u8]) -> Vec<u8> {
+    with_letter(seeded, text, b'f', &F_FIELDS)
+}
+
+/// A text with one of these fields in a field, or with a byte changed into this letter.
+fn with_letter(
+    seeded: &mut Seeded,
+    text: &[u8],
+    letter: u8,
+    fields: &'static [&'static str],
+) -> Vec<u8> {
     let mut changed = text.to_vec();
     if seeded.once_in(3) {
         let place = seeded.below(text.len());
-        changed[place] = b'K';
+        changed[place] = letter;
     } else {
-        edit_lines(seeded, &mut changed, |seeded, lines| change_field(seeded, lines, &K_FIELDS));
+        edit_lines(seeded, &mut changed, |seeded, lines| change_field(seeded, lines, fields));
     }
     changed
+}
+
+/// A text or listing with one of `F_FIELDS` for its k field, the fourth of its first line, in half of the draws one of
+/// the free class.
+pub fn with_other_k(seeded: &mut Seeded, text: &[u8]) -> Vec<u8> {
+    let end = text.iter().position(|&byte| byte == b'\n').unwrap_or(text.len());
+    let (first, rest) = text.split_at(end);
+    let mut fields: Vec<&[u8]> = first.split(|&byte| byte == b'\t').collect();
+    let others = if seeded.once_in(2) { &F_FIELDS[..3] } else { &F_FIELDS[..] };
+    fields[3] = seeded.pick(others).as_bytes();
+    [&fields.join(&b"\t"[..]), rest].concat()
 }
 
 /// What stands after `table` in the first words of texts, and after `form` in those of listings, or nearly so.
@@ -152,7 +196,11 @@ fn carriage_returns(_: &mut Seeded, text: &mut Vec<u8>) {
 }
 
 /// Edits a text as a list of lines, each with its byte 10.
-fn edit_lines(seeded: &mut Seeded, text: &mut Vec<u8>, edit: fn(&mut Seeded, &mut Vec<Vec<u8>>)) {
+fn edit_lines(
+    seeded: &mut Seeded,
+    text: &mut Vec<u8>,
+    edit: impl Fn(&mut Seeded, &mut Vec<Vec<u8>>),
+) {
     let mut lines: Vec<Vec<u8>> =
         text.split_inclusive(|&byte| byte == b'\n').map(<[u8]>::to_vec).collect();
     if !lines.is_empty() {

@@ -1,5 +1,6 @@
 //! Lines and fields, for texts and listings alike.
 
+use crate::class::Class;
 use crate::evaluator::Refusal;
 
 /// The fields of a line, and its number from 1.
@@ -52,6 +53,22 @@ pub fn read_number(field: &[u8], digits: usize) -> Option<usize> {
         && field.iter().all(u8::is_ascii_digit)
         && (field[0] != b'0' || field.len() == 1);
     sound.then(|| field.iter().fold(0, |number, digit| number * 10 + usize::from(digit - b'0')))
+}
+
+/// The k field of a class: a digit for the block class, `f` and a digit for the free class.
+pub fn read_class(field: &[u8]) -> Option<Class> {
+    match field {
+        [b'f', digit @ ..] => read_digit(digit).map(Class::Free),
+        digit => read_digit(digit).map(Class::Block),
+    }
+}
+
+/// The k field of a class.
+pub fn class_field(class: Class) -> String {
+    match class {
+        Class::Block(k) => k.to_string(),
+        Class::Free(k) => format!("f{k}"),
+    }
 }
 
 /// m characters, leftmost output 0, each `0` or `1`, not all `0`.

@@ -1,10 +1,10 @@
-//! Listings of the block class, whose first word is `form` or `form2`: written from an expansion, and read
-//! back from their own lines.
+//! Listings of the classes with mixed inputs, whose first word is `form` or `form2`: written from an expansion,
+//! and read back from their own lines.
 
-use super::fields::{Line, Lines, outputs_field, read_digit, read_mask, read_number};
+use super::fields::{Line, Lines, class_field, outputs_field, read_class, read_mask, read_number};
 use super::products::{Product, counted, term_lines, value};
 use super::{Design, Kind};
-use crate::class::{Cost, Expansion};
+use crate::class::{Class, Cost, Expansion, Figures};
 use crate::evaluator::{Refusal, complemented, holds, inputs, places};
 use crate::family::Family;
 
@@ -25,7 +25,8 @@ pub struct Listing {
     pub family: Family,
     pub n: usize,
     pub m: usize,
-    pub k: usize,
+    /// What the k field says.
+    pub class: Class,
     pub mixed: usize,
     pub fixed: usize,
     /// The counts on the first line.
@@ -38,7 +39,7 @@ pub struct Listing {
 impl Listing {
     /// The listing of an expansion of a design.
     pub fn of(design: &Design, expansion: &Expansion) -> Self {
-        let (family, n, m, k) = (design.family, design.n, design.m, design.k());
+        let (family, n, m, class) = (design.family, design.n, design.m, design.class());
         let Expansion { member, coefficients, inverted, cost } = expansion;
         let product = |t: usize| Product {
             cube: cube_field(n, t, member.polarity(n, t)).into_bytes(),
@@ -47,13 +48,13 @@ impl Listing {
         let products = (0..places(n)).filter(|&t| coefficients[t] != 0).map(product).collect();
         let (mixed, fixed) = (member.mixed, member.fixed);
         let (stated, inverted) = (*cost, *inverted);
-        Listing { family, n, m, k, mixed, fixed, stated, inverted, products }
+        Listing { family, n, m, class, mixed, fixed, stated, inverted, products }
     }
 
     /// The first line, with its byte 10.
     pub fn first_line(&self) -> String {
-        let Listing { n, m, k, mixed, fixed, stated, .. } = self;
-        let word = self.family.form_word();
+        let Listing { n, m, mixed, fixed, stated, .. } = self;
+        let (word, k) = (self.family.form_word(), class_field(self.class));
         let counts = format!("{}\t{}", stated.products, stated.literals);
         format!("{word}\t{n}\t{m}\t{k}\t{mixed}\t{fixed}\t{counts}\n")
     }
@@ -80,7 +81,7 @@ impl Listing {
         let mut lines = Lines::new(bytes);
         let first = next_line(&mut lines)?;
         let mut listing = Listing::read_first(&first).ok_or(first.refusal(11))?;
-        let own = (listing.family, listing.n, listing.m, Kind::Block(listing.k));
+        let own = (listing.family, listing.n, listing.m, Kind::Mixed(listing.class));
         if own != (design.family, design.n, design.m, design.kind) {
             return Err(first.refusal(12));
         }
@@ -111,7 +112,7 @@ impl Listing {
             family: Family::of_word(Family::form_word, word)?,
             n: number(n)?,
             m: number(m)?,
-            k: read_digit(k)?,
+            class: read_class(k)?,
             mixed: number(mixed)?,
             fixed: number(fixed)?,
             stated: Cost { products: number(products)?, literals: number(literals)? },
@@ -135,6 +136,12 @@ impl Listing {
     /// The counts that the `term` lines have.
     pub fn counted(&self) -> Cost {
         counted(&self.products)
+    }
+
+    /// M, i, the counts on the first line, and the inversion mask.
+    pub fn figures(&self) -> Figures {
+        let Cost { products, literals } = self.stated;
+        [self.mixed, self.fixed, products, literals, self.inverted.into()]
     }
 }
 

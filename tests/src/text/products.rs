@@ -17,7 +17,7 @@ impl Product {
         self.cube[self.cube.len() - i]
     }
 
-    /// The term in the block class: the inputs whose character is not `-`.
+    /// The term in the classes with mixed inputs: the inputs whose character is not `-`.
     pub fn term(&self) -> usize {
         number_of(self.cube.len(), |i| self.character(i) != b'-')
     }
