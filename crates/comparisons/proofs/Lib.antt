@@ -2,3 +2,4 @@ pub mod Choices
 pub mod Texts
 pub mod Examples
 pub mod FewerPins
+pub mod WiderFields

@@ -7,7 +7,7 @@ use Rattle.numbers.specs.Nonzero.{ifNonzero}
 use Rattle.listings.specs.Parts.{parts, bytes, same, fields}
 use Rattle.listings.specs.Listing.{tabbed, line, descending, digitCount, decimal}
 use Rattle.listings.specs.Meaning.{outputsSaid, finished, linesOf, overLines}
-use Rattle.fewer_outputs.specs.Choices.{chosenCharacters, pointWith, chosenLine, chosenText}
+use Rattle.comparisons.specs.Choices.{chosenCharacters, pointWith, chosenLine, chosenText}
 
 -- the text that is printed in document 01, "Text in, listing out"
 abbrev printedText : String

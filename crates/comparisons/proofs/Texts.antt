@@ -41,8 +41,8 @@ use Rattle.table_texts.proofs.read.Accepted.{reading-accepted}
 use Rattle.table_texts.proofs.Acceptance.{text-accepted}
 use Rattle.table_texts.proofs.DesignLine.{kind-read, plain-table, plain-dash, plain-kind}
 use Rattle.table_texts.proofs.Exactness.{text-read}
-use Rattle.fewer_outputs.specs.Choices.{chosenDesign, chosenCharacters, pointWith, chosenLine, chosenText}
-use Rattle.fewer_outputs.proofs.Choices.{chosen-accepted}
+use Rattle.comparisons.specs.Choices.{chosenDesign, chosenCharacters, pointWith, chosenLine, chosenText}
+use Rattle.comparisons.proofs.Choices.{chosen-accepted}
 
 -- ---- the characters of the outputs
 

@@ -16,7 +16,7 @@ use Rattle.table_texts.specs.Read.{given, reading}
 use Rattle.text.specs.declared.compile.Compiled.the-variants.{Written}
 use Rattle.text.specs.Compile.{Compile}
 use Rattle.text.specs.Print.{Print}
-use Rattle.fewer_outputs.specs.Choices.{chosenDesign, chosenText}
+use Rattle.comparisons.specs.Choices.{chosenDesign, chosenText}
 
 -- the counts on the first line of a listing cost no more than those on another's, as the family weighs them
 abbrev pub ListedNoDearer : Family → (listing other : List ℕ) → Type 0

@@ -10,7 +10,7 @@ use Rattle.expansions.proofs.Split.{gather-zero}
 use Rattle.expansions.proofs.Outputs.{chosen-at, fewer-outputs}
 use Rattle.table_texts.specs.declared.sizes.Design.{Design}
 use Rattle.table_texts.specs.Accepted.{Accepted}
-use Rattle.fewer_outputs.specs.Choices.{chosenDesign}
+use Rattle.comparisons.specs.Choices.{chosenDesign}
 
 pub chosen-accepted : (d : Design) (t : List ℕ) (s : ℕ) → IsChoice (d .m) s → Accepted d t → Accepted (chosenDesign s d) (chosenTable (d .m) s t)
 unfolding chosenTable

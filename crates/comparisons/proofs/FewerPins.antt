@@ -16,10 +16,10 @@ use Rattle.table_texts.proofs.read.Accepted.{reading-accepted}
 use Rattle.text.specs.Compile.{answerListing}
 use Rattle.text.specs.Print.{Print}
 use Rattle.text.proofs.compile.Listings.{answer-listing}
-use Rattle.fewer_outputs.specs.Choices.{chosenDesign}
-use Rattle.fewer_outputs.specs.FewerPins.{ListedNoDearer, HasLeastCost, FewerPins}
-use Rattle.fewer_outputs.proofs.Choices.{chosen-accepted}
-use Rattle.fewer_outputs.proofs.Texts.{chosen-read}
+use Rattle.comparisons.specs.Choices.{chosenDesign}
+use Rattle.comparisons.specs.FewerPins.{ListedNoDearer, HasLeastCost, FewerPins}
+use Rattle.comparisons.proofs.Choices.{chosen-accepted}
+use Rattle.comparisons.proofs.Texts.{chosen-read}
 
 module _ (d : Design) (t : List ℕ) (s : ℕ) (choice : IsChoice (d .m) s) where
   -- from the bytes of both listings
@@ -36,7 +36,7 @@ pub least-cost : (d : Design) (t : List ℕ) → Accepted d t → HasLeastCost d
 least-cost d t a = (listingProducts (answerListing d t), listingLiterals (answerListing d t), answer-listing d t a .least)
 
 -- what the program prints for an accepted text is a listing as demand 3 asks
-printed-listing : (text : List ℕ) (d : Design) (t held : List ℕ) (count : ℕ) → reading text ≡ given d t → Print text held count
+pub printed-listing : (text : List ℕ) (d : Design) (t held : List ℕ) (count : ℕ) → reading text ≡ given d t → Print text held count
     → IsListing (d .n) (d .family) (d .kind) (at t) (take count held)
 printed-listing text d t held count e print = rw (print .whole d t e) (answer-listing d t (reading-accepted text d t e))
 
