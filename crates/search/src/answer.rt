@@ -3,10 +3,9 @@ ghost use mathlib.Core.Path.{_≡_};
 ghost use Rattle.numbers.specs.Bytes.{at};
 ghost use Rattle.lanes.specs.inner.Sizes.{Limits};
 ghost use Rattle.search.specs.Expansion.{answerExpansion, searchable, searched};
-ghost use Rattle.search.specs.inner.Search.{Given};
+ghost use Rattle.pairs.specs.inner.Pairs.{Given};
 use crate::expansion::Expansion;
 use crate::found::expansion_of;
-use crate::pairs::first_least;
 use blocks::rows::rows_of;
 use expansions::families::Family;
 use expansions::kinds::Class;
@@ -14,6 +13,7 @@ use expansions::kinds::most_mixed;
 use lanes::sizes::Sizes;
 use numbers::refusals::judge_sizes;
 use numbers::refusals::within_outputs;
+use pairs::leader::first_least;
 
 // The record of the answer. The number of outputs is not needed: an output that there is not is zero at every point.
 fn search_allowed(sizes: Sizes, table: &[u8]) -> Expansion

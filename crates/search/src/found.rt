@@ -6,9 +6,9 @@ ghost use Rattle.numbers.specs.Bytes.{at, tabulate};
 ghost use Rattle.expansions.specs.BlockTable.{Rows};
 ghost use Rattle.lanes.specs.inner.Sizes.{Limits};
 ghost use Rattle.search.specs.Expansion.{answerExpansion};
-ghost use Rattle.search.specs.inner.Search.{Given, choiceAt, Leads};
+ghost use Rattle.pairs.specs.inner.Pairs.{Given, Leads};
+ghost use Rattle.search.specs.inner.Search.{choiceAt};
 use crate::expansion::Expansion;
-use crate::pairs::Leader;
 use charges::cheapest::cheapest_apart;
 use charges::cheapest::cheapest_block;
 use charges::cheapest::cheapest_first;
@@ -18,6 +18,7 @@ use lanes::expand::expand_blocks;
 use lanes::sizes::Pair;
 use lanes::sizes::Sizes;
 use lanes::terms::coefficients;
+use pairs::leader::Leader;
 
 // The first least choice of block j, and 0 where there is no block j.
 fn choice_at(rows: &[u64; 512], sizes: Sizes, lanes: &[u8], j: usize) -> u8

@@ -16,7 +16,7 @@ use Rattle.expansions.specs.declared.families.Family.{Family}
 use Rattle.expansions.specs.Classes.{mostMixed}
 use Rattle.search.specs.Expansion.{answerExpansion, searchable, searched}
 use Rattle.lanes.specs.inner.Sizes.{Limits}
-use Rattle.search.specs.inner.Search.{Given}
+use Rattle.pairs.specs.inner.Pairs.{Given}
 use Rattle.numbers.specs.Refusals.{sizesRefusal, Sized}
 use Rattle.numbers.proofs.refusals.Judging.{sizes-none, sizes-accepted}
 

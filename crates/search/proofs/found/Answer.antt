@@ -17,9 +17,10 @@ use Rattle.search.specs.Expansion.{answerExpansion}
 use Rattle.lanes.specs.inner.Lanes.{blockLanes}
 use Rattle.lanes.specs.inner.Sizes.{Limits}
 use Rattle.lanes.specs.inner.Terms.{coefficientAt}
-use Rattle.search.specs.inner.Search.{Given, Leads, choiceAt}
+use Rattle.pairs.specs.inner.Pairs.{Given, Leads}
+use Rattle.search.specs.inner.Search.{choiceAt}
 use Rattle.search.specs.declared.expansion.Expansion.{Expansion}
-use Rattle.search.specs.declared.pairs.Leader.{Leader}
+use Rattle.pairs.specs.declared.leader.Leader.{Leader}
 use Rattle.lanes.specs.declared.sizes.Sizes.{Sizes}
 use Rattle.search.proofs.found.Places.{choices-answer, chosen-lt, coefficients-expanded, without-first}
 use Rattle.search.proofs.found.Leader.{leader-mixed, leader-fixed, leader-products, leader-literals}

@@ -13,8 +13,8 @@ use Rattle.expansions.specs.Rules.{ruleOf}
 use Rattle.expansions.specs.Costs.{products, literals}
 use Rattle.expansions.proofs.Costs.{charge, charge-products, charge-literals}
 use Rattle.expansions.specs.Answers.{leastPair, answerPair, answerMixed, answerFixed, answerChoice, answerCoefficient}
-use Rattle.search.specs.inner.Search.{pairValid, pairCost, Leads}
-use Rattle.search.specs.declared.pairs.Leader.{Leader}
+use Rattle.pairs.specs.inner.Pairs.{pairValid, pairCost, Leads}
+use Rattle.pairs.specs.declared.leader.Leader.{Leader}
 use Rattle.expansions.proofs.Least.{leading-chosen}
 use Rattle.expansions.proofs.Answers.{answer-first, answer-member, answer-inverted-lt, answer-charge}
 
