@@ -3,19 +3,19 @@ use mathlib.Core.List.{List, [], _∷_, _++_}
 use Prim.Native.Nat.{ℕ}
 use lib.ListN.{length}
 use Rattle.numbers.specs.Bytes.{at}
-use Rattle.algebra.specs.Calls.{transformRefusal, transformed}
-use Rattle.algebra.specs.declared.calls.Transformed.{Transformed}
-use Rattle.algebra.specs.declared.calls.Transformed.the-variants.{Done, Refused}
+use Rattle.transform_calls.specs.Calls.{transformRefusal, transformed}
+use Rattle.transform_calls.specs.declared.calls.Transformed.{Transformed}
+use Rattle.transform_calls.specs.declared.calls.Transformed.the-variants.{Done, Refused}
 use Rattle.expansions.specs.declared.families.Family.{Family}
 use Rattle.expansions.specs.declared.families.Family.the-variants.{One, Two}
 use Rattle.expansions.specs.declared.kinds.Class.{Class}
 use Rattle.expansions.specs.declared.kinds.Class.the-variants.{Block, Free}
 use Rattle.expansions.specs.declared.kinds.Kind.{Kind}
 use Rattle.expansions.specs.declared.kinds.Kind.the-variants.{Mixed, Kronecker}
-use Rattle.search.specs.Calls as minimising
+use Rattle.minimise_calls.specs.Calls as minimising
 use Rattle.search.specs.Expansion.{answerExpansion}
-use Rattle.search.specs.declared.calls.Minimised.{Minimised}
-use Rattle.search.specs.declared.calls.Minimised.the-variants as minimised
+use Rattle.minimise_calls.specs.declared.calls.Minimised.{Minimised}
+use Rattle.minimise_calls.specs.declared.calls.Minimised.the-variants as minimised
 use Rattle.table_texts.specs.declared.sizes.Design.{Design}
 use Rattle.table_texts.specs.Read as reading
 use Rattle.text.specs.declared.compile.Compiled.{Compiled}

@@ -1,9 +1,9 @@
 // The minimising call. The answer is seven numbers: the refusal's number and its line, M, i, products, literals and the inversion mask.
 ghost use mathlib.Core.Path.{_≡_};
 ghost use lib.ListN.{length};
-ghost use Rattle.search.specs.Calls.{Minimise};
+ghost use Rattle.minimise_calls.specs.Calls.{Minimise};
 ghost use Rattle.capi.specs.Answers.{decidedMinimum, minimumNumbers};
-use search::calls::Minimised;
+use minimise_calls::calls::Minimised;
 
 // The numbers that stand for the minimising call's answer.
 fn minimum_numbers(r: Minimised) -> [u64; 7]
@@ -29,7 +29,7 @@ fn minimum_numbers(r: Minimised) -> [u64; 7]
     }
 }
 
-// Takes n, m, k and a table of 2^n bytes, and fills 2^n coefficients and 2^(n−k) block polarities, as `search::calls::minimise` does, which
+// Takes n, m, k and a table of 2^n bytes, and fills 2^n coefficients and 2^(n−k) block polarities, as `minimise_calls::calls::minimise` does, which
 // judges and refuses.
 #[no_mangle]
 pub extern "C" fn mipaldoz_minimise(
@@ -45,5 +45,12 @@ pub extern "C" fn mipaldoz_minimise(
         (decidedMinimum n m k (now (table .entry)) (length (now (coefficients .entry))) (length (now (blocks .entry)))) ⌝ }
     ensures answer { λ _. ⌜ now (answer .exit) ≡ minimumNumbers (decidedMinimum n m k (now (table .entry)) (length (now (coefficients .entry))) (length (now (blocks .entry)))) ⌝ }
 {
-    *answer = minimum_numbers(search::calls::minimise(n, m, k, table, coefficients, blocks));
+    *answer = minimum_numbers(minimise_calls::calls::minimise(
+        n,
+        m,
+        k,
+        table,
+        coefficients,
+        blocks,
+    ));
 }

@@ -1,9 +1,9 @@
 // The transform calls. The answer is two numbers, the refusal's number and its line.
 ghost use mathlib.Core.Path.{_≡_};
 ghost use lib.ListN.{length};
-ghost use Rattle.algebra.specs.Calls.{Forward, Backward};
+ghost use Rattle.transform_calls.specs.Calls.{Forward, Backward};
 ghost use Rattle.capi.specs.Answers.{decided, transformNumbers};
-use algebra::calls::Transformed;
+use transform_calls::calls::Transformed;
 
 // The numbers that stand for a transform call's answer.
 fn answer_numbers(r: Transformed) -> [u64; 2]
@@ -30,7 +30,7 @@ pub extern "C" fn mipaldoz_forward(
     ensures bytes { λ _. ⌜ Forward n m w (now (table .entry)) (now (coefficients .entry)) (now (coefficients .exit)) (decided n m w (now (table .entry)) (length (now (coefficients .entry)))) ⌝ }
     ensures answer { λ _. ⌜ now (answer .exit) ≡ transformNumbers (decided n m w (now (table .entry)) (length (now (coefficients .entry)))) ⌝ }
 {
-    *answer = answer_numbers(algebra::calls::forward(n, m, w, table, coefficients));
+    *answer = answer_numbers(transform_calls::calls::forward(n, m, w, table, coefficients));
 }
 
 // Takes n, m, w and 2^n coefficients, and fills a table of 2^n bytes with their value at every point.
@@ -47,5 +47,5 @@ pub extern "C" fn mipaldoz_backward(
     ensures bytes { λ _. ⌜ Backward n m w (now (coefficients .entry)) (now (table .entry)) (now (table .exit)) (decided n m w (now (coefficients .entry)) (length (now (table .entry)))) ⌝ }
     ensures answer { λ _. ⌜ now (answer .exit) ≡ transformNumbers (decided n m w (now (coefficients .entry)) (length (now (table .entry)))) ⌝ }
 {
-    *answer = answer_numbers(algebra::calls::backward(n, m, w, coefficients, table));
+    *answer = answer_numbers(transform_calls::calls::backward(n, m, w, coefficients, table));
 }

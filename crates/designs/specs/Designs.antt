@@ -481,7 +481,7 @@ freeDesigns =
     ∷ states (costOf Free One 3 1 dearerTable) (2 ∷ 5 ∷ [])
     ∷ states (costOf Free One 3 2 dearerTable) (2 ∷ 5 ∷ [])
     -- "A k field of `f0`, `f1` or `f2` selects the free class": three terms of one block, where document 01's class needs four products at every k
-    ∷ states (answerFor Free One 3 2 neitherTable) (3 ∷ 0 ∷ 3 ∷ 7 ∷ 0 ∷ [])
+    ∷ states (printedOf neitherText) (bytes neitherListing)
     ∷ states (costOf Free One 3 1 neitherTable) (4 ∷ 8 ∷ [])
     ∷ states (costOf Block One 3 0 neitherTable) (4 ∷ 8 ∷ [])
     ∷ states (costOf Block One 3 1 neitherTable) (4 ∷ 8 ∷ [])
@@ -493,7 +493,6 @@ freeDesigns =
     ∷ states (meaningOf dearerText) (accepted One 3 2 (Mixed Free 1) (dearerTable ++ replicate 248 0))
     ∷ states (printedOf dearerText) (bytes dearerListing)
     ∷ states (tableOf 3 (bytes dearerListing)) dearerTable
-    ∷ states (printedOf neitherText) (bytes neitherListing)
     ∷ states (countsOf (bytes neitherListing)) (3 ∷ 7 ∷ [])
     ∷ states (tableOf 3 (bytes neitherListing)) neitherTable
     -- "`f` with a digit above 2 or above n is refusal 4"; another field with an `f` is none

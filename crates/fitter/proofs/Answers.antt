@@ -24,7 +24,7 @@ use Rattle.table_texts.proofs.read.Accepted.{reading-accepted}
 use Rattle.listing_texts.specs.declared.form.Form.{Form}
 use Rattle.listing_texts.specs.Form.{KronListing}
 use Rattle.listing_texts.specs.Listings.{Passes}
-use Rattle.listing_texts.specs.Rows.{coefficientIn, complementedIn}
+use Rattle.shown_rows.specs.Rows.{coefficientIn, complementedIn}
 use Rattle.listing_texts.specs.Read.{ListingReading, shown, refused, listingReading, besideKronecker}
 use Rattle.listing_texts.proofs.Exactness.{read-passes, passes-exactly}
 use Rattle.listing_texts.proofs.BesideKronecker.{form-exactly, other-exactly, beside-either, kron-beside, kron-read}

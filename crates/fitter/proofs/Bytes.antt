@@ -17,7 +17,7 @@ use Rattle.listings.proofs.Joined.{AllPlain}
 use Rattle.membership.specs.Class.{Shown}
 use Rattle.table_texts.specs.declared.sizes.Sizes.{Sizes}
 use Rattle.listing_texts.specs.Listings.{termListing}
-use Rattle.listing_texts.specs.Rows.{coefficientIn, complementedIn}
+use Rattle.shown_rows.specs.Rows.{coefficientIn, complementedIn}
 use Rattle.lines.proofs.Terms.{TermRows}
 use Rattle.fitter.specs.Differences.{invertedValue}
 

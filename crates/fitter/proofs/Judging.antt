@@ -18,7 +18,7 @@ use Rattle.membership.proofs.Shown.{shown-past}
 use Rattle.table_texts.specs.declared.sizes.Sizes.{Sizes}
 use Rattle.listing_texts.specs.declared.form.Form.{Form}
 use Rattle.listing_texts.specs.declared.read.ListingAnswer.the-variants as answer
-use Rattle.listing_texts.specs.Rows.{coefficientIn, complementedIn, shownBlocks}
+use Rattle.shown_rows.specs.Rows.{coefficientIn, complementedIn, shownBlocks}
 use Rattle.listing_texts.specs.Read.{ListingReading, shown, refused, listingReading}
 use Rattle.listing_texts.specs.Record.{shownExpansion, shownRead, handedUp}
 use Rattle.listing_texts.proofs.Exactness.{listing-read}

@@ -18,7 +18,7 @@ use Rattle.membership.proofs.Class.{class-exactly, class-member, class-lines, c
 use Rattle.table_texts.specs.declared.sizes.Sizes.{Sizes}
 use Rattle.listing_texts.specs.declared.form.Form.{Form}
 use Rattle.listing_texts.specs.Listings.{termListing}
-use Rattle.listing_texts.specs.Rows.{coefficientIn, complementedIn}
+use Rattle.shown_rows.specs.Rows.{coefficientIn, complementedIn}
 use Rattle.listing_texts.specs.Read.{shown, listingReading}
 use Rattle.listing_texts.proofs.Exactness.{ListingIs, listing-read}
 use Rattle.fitter.specs.declared.check.Checked.{Checked}

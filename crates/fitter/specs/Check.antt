@@ -24,7 +24,7 @@ use Rattle.table_texts.specs.Read as tables
 use Rattle.listing_texts.specs.Form.{FormListing}
 use Rattle.listing_texts.specs.Inv.{NoInv}
 use Rattle.listing_texts.specs.Listings.{termListing, Passes}
-use Rattle.listing_texts.specs.Rows.{coefficientIn, complementedIn}
+use Rattle.shown_rows.specs.Rows.{coefficientIn, complementedIn}
 use Rattle.listing_texts.specs.Read.{ListingReading, shown, refused, listingReading, besideKronecker}
 use Rattle.fitter.specs.Differences.{invertedValue, firstDifference}
 use Rattle.fitter.specs.declared.check.Checked.{Checked}

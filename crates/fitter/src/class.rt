@@ -62,7 +62,8 @@ pub fn all_show_back(
     complements: &[u8; Expansion::PLACES],
 ) -> bool
     requires { ⌜ (sizes .n ≤ 8) × (mixed < 2 ^ sizes .n) × (fixed < 2 ^ sizes .n) ⌝ }
-    ensures { λ r. ⌜ r ≡ every (2 ^ sizes .n) (showsBack (sizes .class) (sizes .n) (sizes .k) mixed fixed (at (now (blocks .entry))) (at (now (complements .entry))) (at (now (coefficients .entry)))) ⌝ }
+    ensures { λ r. ⌜ r ≡ every (2 ^ sizes .n) (showsBack (sizes .class) (sizes .n) (sizes .k) mixed fixed (at (now (blocks .entry)))
+        (at (now (complements .entry))) (at (now (coefficients .entry)))) ⌝ }
 {
     let size: usize = 1 << sizes.n;
     let mut t: usize = 0;

@@ -36,7 +36,7 @@ use Rattle.listing_texts.specs.declared.form.FirstLine.{FirstLine}
 use Rattle.listing_texts.specs.declared.form.FirstLine.the-variants.{States, Wrong}
 use Rattle.listing_texts.specs.Form.{firstLine, statedFields, Digits}
 use Rattle.listing_texts.specs.Inv.{invSaid}
-use Rattle.listing_texts.specs.Rows.{coefficientIn, complementedIn}
+use Rattle.shown_rows.specs.Rows.{coefficientIn, complementedIn}
 use Rattle.listing_texts.specs.Read.{shown, refused, alike, countsRight, linesJudged, firstJudged, grammar, fromSecond, allLines, listingReading}
 use Rattle.listing_texts.specs.Listings.{termListing, Passes}
 use Rattle.listing_texts.specs.inner.Judging.{secondAt}

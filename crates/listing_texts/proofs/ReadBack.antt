@@ -29,7 +29,7 @@ use Rattle.search.proofs.expansion.Answer.{answerExpansion-is, expansion-coeffi
 use Rattle.listings.specs.Listing.{listing}
 use Rattle.table_texts.specs.declared.sizes.Sizes.{Sizes}
 use Rattle.listing_texts.specs.declared.read.ListingAnswer.the-variants.{Given}
-use Rattle.listing_texts.specs.Rows.{coefficientIn, complementedIn, shownBlocks}
+use Rattle.shown_rows.specs.Rows.{coefficientIn, complementedIn, shownBlocks}
 use Rattle.listing_texts.specs.Read.{ListingReading, listingReading, shown}
 use Rattle.listing_texts.specs.Listings.{termListing}
 use Rattle.listing_texts.specs.Record.{shownExpansion, shownRead, handedUp}

@@ -12,7 +12,7 @@ use Rattle.numbers.specs.Tests.{only}
 use Rattle.numbers.proofs.Bytes.{at-tabulate}
 use Rattle.numbers.proofs.Shifts.{points-le}
 use Rattle.expansions.specs.Costs.{counted}
-use Rattle.listing_texts.specs.Rows.{coefficientIn, complementedIn}
+use Rattle.shown_rows.specs.Rows.{coefficientIn, complementedIn}
 
 -- the rows of the lines that are written for terms
 unfoldable pub writtenRows : ℕ → (w c : ℕ → ℕ) → List ℕ

@@ -22,7 +22,7 @@ use Rattle.listing_texts.specs.declared.form.FirstLine.{FirstLine}
 use Rattle.listing_texts.specs.declared.form.FirstLine.the-variants.{States, Wrong}
 use Rattle.listing_texts.specs.Form.{firstLine}
 use Rattle.listing_texts.specs.Inv.{invSaid}
-use Rattle.listing_texts.specs.Rows.{coefficientIn}
+use Rattle.shown_rows.specs.Rows.{coefficientIn}
 
 -- the numbers of a first line with the inversion mask of the second and the rows of the `term` lines; or "11 with its line in the listing" and "12
 -- with line 1"

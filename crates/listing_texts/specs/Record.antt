@@ -10,7 +10,7 @@ use Rattle.table_texts.specs.declared.sizes.Sizes.{Sizes}
 use Rattle.listing_texts.specs.declared.form.Form.{Form}
 use Rattle.listing_texts.specs.declared.read.ListingRead.{ListingRead}
 use Rattle.listing_texts.specs.declared.read.ListingAnswer.the-variants.{Given, Refused}
-use Rattle.listing_texts.specs.Rows.{coefficientIn, complementedIn, shownBlocks}
+use Rattle.shown_rows.specs.Rows.{coefficientIn, complementedIn, shownBlocks}
 use Rattle.listing_texts.specs.Read.{ListingReading, shown, refused}
 
 -- the record of a first line, an inversion mask and the rows, beside a table with the sizes z

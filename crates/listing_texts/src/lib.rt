@@ -5,4 +5,3 @@ pub mod beside;
 mod form;
 mod inv;
 pub mod read;
-mod shown;

@@ -1,7 +1,4 @@
 // Writing the listing of an expansion of a class with mixed inputs: `form` or `form2`, `inv`, a line for each product, `end`.
-use crate::first::mark_length;
-use crate::first::word_length;
-use crate::first::write_form;
 use crate::listed::Listed;
 use crate::terms::TERM;
 use crate::terms::begin_term;
@@ -9,6 +6,9 @@ use crate::terms::end_term;
 use crate::terms::write_end;
 use expansions::families::Family;
 use expansions::kinds::Class;
+use first_lines::first::mark_length;
+use first_lines::first::word_length;
+use first_lines::first::write_form;
 use search::expansion::Expansion;
 use search::polarity::term_polarity;
 use writing::line::digits_of;

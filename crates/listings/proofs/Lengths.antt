@@ -16,6 +16,7 @@ use Rattle.numbers.specs.Nonzero.{ifNonzero, overNonzero}
 use Rattle.numbers.specs.Sums.{foldBelow, sumBelow}
 use Rattle.expansions.specs.Costs.{counted, products}
 use Rattle.expansions.specs.declared.kinds.Class.{Class}
+use Rattle.expansions.specs.declared.kinds.Class.the-variants.{Block, Free}
 use Rattle.expansions.specs.declared.families.Family.{Family}
 use Rattle.expansions.specs.declared.families.Family.the-variants.{One, Two}
 use Rattle.expansions.specs.Members.{polarity}
@@ -119,6 +120,11 @@ pub length-formWord : (family : Family) → length (formWord family) ≤ 5
 unfolding formWord bytes
 length-formWord One = omega arith
 length-formWord Two = omega arith
+
+pub length-mixedMark : (C : Class) → length (mixedMark C) ≤ 1
+unfolding mixedMark bytes
+length-mixedMark Block = omega arith
+length-mixedMark Free = omega arith
 
 pub length-formLine : (family : Family) (fs : List (List ℕ)) → length (formLine family fs) ≡ 1 + length (formWord family) + length (tabbed fs)
 unfolding formLine line

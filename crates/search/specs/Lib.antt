@@ -1,3 +1,2 @@
 pub mod Expansion
-pub mod Calls
 pub mod inner

@@ -31,6 +31,7 @@ use Rattle.table_texts.specs.First.{tableWord}
 use Rattle.table_texts.specs.Read.{given, reading}
 use Rattle.table_texts.proofs.read.Accepted.{reading-accepted}
 use Rattle.listings.proofs.Characters.{length-decimal, length-outputs}
+use Rattle.listings.proofs.Lengths.{length-mixedMark}
 use Rattle.listings.proofs.Longest.{digitCount-one}
 use Rattle.numbers.proofs.Shifts.{points-le}
 use Rattle.table_texts.specs.TableTexts.{pointLine, pointLines, kindField, designLine, textWith, tableText, dashText}
@@ -90,18 +91,13 @@ unfolding bytes
 length-dash = refl
 
 -- an `f` field is the longest of the characters for the kind of k
-length-mark : (C : Class) → length (mixedMark C) ≤ 1
-unfolding mixedMark bytes
-length-mark Block = omega arith
-length-mark Free = omega arith
-
 length-kind : (n : ℕ) (x : Kind) → KindSized n x → length (kindField x) ≤ 2
 unfolding kindField mixedField bytes
 length-kind n (Mixed C k) h =
     omega (
       arith,
       length-append (mixedMark C) (decimal k),
-      length-mark C,
+      length-mixedMark C,
       length-decimal k,
       digitCount-one k (omega (arith, h .0, most-three C)),
     )

@@ -28,13 +28,12 @@ use Rattle.text.specs.Print.{judged, refusedLine, printedFor, printed, P
 use Rattle.table_texts.proofs.Design.{table-sized}
 use Rattle.table_texts.proofs.read.Accepted.{reading-accepted}
 use Rattle.expansions.proofs.Classes.{most-three}
-use Rattle.listings.proofs.Lengths.{length-formWord}
+use Rattle.listings.proofs.Lengths.{length-formWord, length-mixedMark}
 use Rattle.listings.proofs.Longest.{answer-longest}
 use Rattle.listings.proofs.Kronecker.{kronecker-longest}
 use Rattle.kronecker.proofs.expansion.Answer.{answerKronecker-is}
 use Rattle.table_texts.proofs.Length.{accepted-text-first}
 use Rattle.writing.proofs.Puts.{put-front}
-use Rattle.listing_writing.proofs.FirstLine.{length-mixedMark}
 use Rattle.text.proofs.compile.Tables.{table-bytes}
 use Rattle.text.proofs.compile.Listings.{answer-listing}
 use Rattle.text.proofs.print.Refusals.{refusal-said, refused-line-le}

@@ -1,6 +1,6 @@
 -- `mipaldoz_minimise` meets its contract.
 use borrow.Author.Needs.{needs}
-use Rattle.search.specs.Calls.{Minimise}
+use Rattle.minimise_calls.specs.Calls.{Minimise}
 use Rattle.capi.specs.Answers.{minimumNumbers}
 use Rattle.capi.proofs.Answers.{answer-decided}
 use Rattle.capi.proofs.minimise.mipaldoz_minimise.Statement.{statement}

@@ -1,6 +1,6 @@
 -- `mipaldoz_backward` meets its contract.
 use borrow.Author.Needs.{needs}
-use Rattle.algebra.specs.Calls.{Backward}
+use Rattle.transform_calls.specs.Calls.{Backward}
 use Rattle.capi.specs.Answers.{transformNumbers}
 use Rattle.capi.proofs.Answers.{answer-decided}
 use Rattle.capi.proofs.transforms.mipaldoz_backward.Statement.{statement}

@@ -1,6 +1,6 @@
 -- `mipaldoz_forward` meets its contract.
 use borrow.Author.Needs.{needs}
-use Rattle.algebra.specs.Calls.{Forward}
+use Rattle.transform_calls.specs.Calls.{Forward}
 use Rattle.capi.specs.Answers.{transformNumbers}
 use Rattle.capi.proofs.Answers.{answer-decided}
 use Rattle.capi.proofs.transforms.mipaldoz_forward.Statement.{statement}

@@ -3,8 +3,8 @@ use mathlib.Core.List.{List}
 use mathlib.Core.Path.{ap, _∙_}
 use Prim.Native.Nat.{ℕ}
 use Rattle.numbers.specs.Bytes.{at}
-use Rattle.listing_texts.specs.Rows.{complementedIn, shownBlocks}
-use Rattle.listing_texts.proofs.shown.Bytes.{lower-bytes, upper-bytes, blocks-ext}
+use Rattle.shown_rows.specs.Rows.{complementedIn, shownBlocks}
+use Rattle.shown_rows.proofs.shown.Bytes.{lower-bytes, upper-bytes, blocks-ext}
 use Rattle.listing_texts.specs.Record.{shownExpansion, shownRead}
 use borrow.Author.Needs.{needs}
 use Rattle.listing_texts.proofs.read.shown_listing.Statement.{statement}
