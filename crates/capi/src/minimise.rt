@@ -4,6 +4,7 @@ ghost use lib.ListN.{length};
 ghost use Rattle.minimise_calls.specs.Calls.{Minimise};
 ghost use Rattle.capi.specs.Answers.{decidedMinimum, minimumNumbers};
 use minimise_calls::calls::Minimised;
+use minimise_calls::calls::minimise;
 
 // The numbers that stand for the minimising call's answer.
 fn minimum_numbers(r: Minimised) -> [u64; 7]
@@ -45,12 +46,5 @@ pub extern "C" fn mipaldoz_minimise(
         (decidedMinimum n m k (now (table .entry)) (length (now (coefficients .entry))) (length (now (blocks .entry)))) ⌝ }
     ensures answer { λ _. ⌜ now (answer .exit) ≡ minimumNumbers (decidedMinimum n m k (now (table .entry)) (length (now (coefficients .entry))) (length (now (blocks .entry)))) ⌝ }
 {
-    *answer = minimum_numbers(minimise_calls::calls::minimise(
-        n,
-        m,
-        k,
-        table,
-        coefficients,
-        blocks,
-    ));
+    *answer = minimum_numbers(minimise(n, m, k, table, coefficients, blocks));
 }
