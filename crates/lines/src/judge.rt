@@ -1,5 +1,5 @@
-// Judging the rows, the lines after the first of a table text and after the second of a listing, one by one; the first bad line counts. For every text, grammar and values lent, `judge_rows` gives the
-// answer and leaves the values that `laterLines` in specs/Rows.antt says.
+// Judging the rows, the lines after the first of a table text and after the second of a listing, one by one; the first bad line counts. For every text,
+// grammar and values lent, `judge_rows` gives the answer and leaves the values that `laterLines` in specs/Rows.antt says.
 use crate::rows::Grammar;
 use crate::rows::RowLine;
 use crate::rows::row_line;

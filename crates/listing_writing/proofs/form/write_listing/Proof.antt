@@ -11,7 +11,8 @@ use Rattle.listings.specs.Listing.{cube, mixedMark, fieldsOf, formWord, formLin
 use Rattle.listings.proofs.Characters.{length-cube}
 use Rattle.listings.specs.inner.Lengths.{digitsOf}
 use Rattle.writing.proofs.Puts.{put-then, put-length}
-use Rattle.listings.proofs.Lengths.{digitsOf-append, digitsOf-le, length-formWord, length-mixedMark, length-formLine, length-formFields, length-invLine, length-products, listing-stated, products-small}
+use Rattle.listings.proofs.Lengths.{digitsOf-append, digitsOf-le, length-formWord, length-mixedMark, length-formLine, length-formFields}
+use Rattle.listings.proofs.Lengths.{length-invLine, length-products, listing-stated, products-small}
 use Rattle.listing_writing.proofs.Answered.{listing-written, listing-short}
 use native.Mathlib.Omega.{arith}
 use Rattle.listing_writing.proofs.form.write_listing.Statement.{statement}
