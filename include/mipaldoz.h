@@ -65,7 +65,7 @@ enum mipaldoz_answer {
     /* of mipaldoz_read */
     MIPALDOZ_INPUTS = 2,       /* n */
     MIPALDOZ_OUTPUTS = 3,      /* m */
-    MIPALDOZ_MIXED_INPUTS = 4, /* k; 1 where the text has `-`, and 0 where it has `K` */
+    MIPALDOZ_MIXED_INPUTS = 4, /* k; where the text has `-` 2, or 1 where n is 1; and 0 where it has `K` */
     MIPALDOZ_KIND = 5,         /* the kind of k: enum mipaldoz_kind; 0 under a refusal */
     MIPALDOZ_FAMILY = 6,       /* the family of parts: enum mipaldoz_family; 0 under a refusal */
     /* of mipaldoz_compile */
@@ -77,7 +77,7 @@ enum mipaldoz_answer {
 
 /* The kinds of k. */
 enum mipaldoz_kind {
-    MIPALDOZ_KIND_BLOCK = 1,     /* a number of mixed inputs: the text has a digit, or `-` for 1 */
+    MIPALDOZ_KIND_BLOCK = 1,     /* a number of mixed inputs: the text has a digit */
     MIPALDOZ_KIND_KRONECKER = 2, /* the text has `K`: Kronecker expansions */
     MIPALDOZ_KIND_FREE = 3       /* a number of mixed inputs of the free class: the text has `f0`, `f1` or `f2` */
 };

@@ -5,14 +5,14 @@
 use crate::class::Class;
 use crate::family::Family;
 use crate::marked::families::{self, COMPARED, Compared, OUTPUTS};
-use crate::marked::{ACCEPTED, DESIGNS, Marked, REFUSED, bytes, free, kronecker};
+use crate::marked::{ACCEPTED, DESIGNS, Marked, REFUSED, bytes, dash, free, kronecker};
 use crate::seeded::Seeded;
 use crate::seeded::tables::{
     any_table, longest_free_listing_table, longest_listing_table, random_table,
 };
 use crate::seeded::texts::{
-    damaged_text, free_text_of, kronecker_text, sound_text_of, with_f_somewhere, with_k_somewhere,
-    with_other_k, with_other_word,
+    damaged_text, dash_text_of, free_text_of, kronecker_text, sound_text_of, with_dash_somewhere,
+    with_f_somewhere, with_k_somewhere, with_other_k, with_other_word,
 };
 use crate::text::{Design, printed};
 
@@ -30,7 +30,8 @@ impl Cases {
         let block = [marked_texts(), sound_texts(&mut seeded), damaged_texts(&mut seeded)].concat();
         let kronecker = kronecker_texts(&mut Seeded::new(72));
         let families = family_texts(&mut Seeded::new(73));
-        let texts = [block, kronecker, families, free_texts(&mut Seeded::new(74))].concat();
+        let free = free_texts(&mut Seeded::new(74));
+        let texts = [block, kronecker, families, free, dash_texts(&mut Seeded::new(75))].concat();
         let framed =
             |text: &Vec<u8>| [format!("{}\n", text.len()).into_bytes(), text.clone()].concat();
         Cases {
@@ -152,6 +153,36 @@ fn free_texts(seeded: &mut Seeded) -> Vec<Vec<u8>> {
     for damage in [damaged_text, with_f_somewhere, with_other_k, with_other_word] {
         for round in 0..60 {
             let (_, text) = free_text_of(seeded, Family::ALL[round % 2], 4);
+            texts.push(damage(seeded, &text));
+        }
+    }
+    texts
+}
+
+/// Texts with `-`: the marked ones, the designs on which the classes differ, the longest listings, texts for every n in
+/// each family, and damaged ones.
+fn dash_texts(seeded: &mut Seeded) -> Vec<Vec<u8>> {
+    let accepted = dash::ACCEPTED.iter().map(|(text, _)| bytes(text));
+    let refused = dash::REFUSED.iter().map(|(text, _, _)| bytes(text));
+    let mut texts: Vec<Vec<u8>> = accepted.chain(refused).collect();
+    let mut push = |n, m, family, table| {
+        texts.push(Design::dashed(n, m, table).of_family(family).text_with("-"));
+    };
+    for family in Family::ALL {
+        for free::Compared { n, m, table, .. } in free::COMPARED {
+            push(n, m, family, table.to_vec());
+        }
+        push(8, 8, family, longest_free_listing_table());
+        for n in 1..=8 {
+            for _ in 0..2 {
+                let m = seeded.within(1, 8);
+                push(n, m, family, any_table(seeded, n, m));
+            }
+        }
+    }
+    for damage in [damaged_text, with_dash_somewhere, with_other_k, with_other_word] {
+        for round in 0..30 {
+            let (_, text) = dash_text_of(seeded, Family::ALL[round % 2], 4);
             texts.push(damage(seeded, &text));
         }
     }

@@ -1,6 +1,7 @@
 //! Designs and texts whose answers are written down by hand: document 01's own, the ones that tell a
 //! misreading of the method from the method, and texts on both sides of each refusal.
 
+pub mod dash;
 pub mod families;
 pub mod free;
 pub mod kronecker;
@@ -102,14 +103,13 @@ pub fn bytes(written: &[u8]) -> Vec<u8> {
 pub const EXAMPLE: &[u8] = b"table 2 2 1\non 0 01\non 1 10\non 2 10\non 3 10\nend\n";
 
 /// Texts of the block class and of family one that are accepted, each with its listing.
-pub const ACCEPTED: [(&[u8], &[u8]); 26] = [
+pub const ACCEPTED: [(&[u8], &[u8]); 25] = [
     (EXAMPLE, b"form 2 2 1 1 2 1 2\ninv 10\nterm 00 11\nend\n"),
     (b"table 2 1 0\nend\n", b"form 2 1 0 0 0 0 0\ninv 0\nend\n"),
     (b"table 2 1 1\nend\n", b"form 2 1 1 1 0 0 0\ninv 0\nend\n"),
-    (b"table 2 1 -\nend\n", b"form 2 1 1 1 0 0 0\ninv 0\nend\n"),
     (b"table 2 1 2\nend\n", b"form 2 1 2 3 0 0 0\ninv 0\nend\n"),
     // All one costs nothing, at every k; an output that is not inverted there is zero.
-    (b"table 1 1 -\non 0 1\non 1 1\nend\n", b"form 1 1 1 1 0 0 0\ninv 1\nend\n"),
+    (b"table 1 1 1\non 0 1\non 1 1\nend\n", b"form 1 1 1 1 0 0 0\ninv 1\nend\n"),
     (b"table 2 1 0\non 0 1\non 1 1\non 2 1\non 3 1\nend\n", b"form 2 1 0 0 0 0 0\ninv 1\nend\n"),
     (b"table 2 1 1\non 0 1\non 1 1\non 2 1\non 3 1\nend\n", b"form 2 1 1 1 0 0 0\ninv 1\nend\n"),
     (b"table 2 1 2\non 0 1\non 1 1\non 2 1\non 3 1\nend\n", b"form 2 1 2 3 0 0 0\ninv 1\nend\n"),
@@ -270,12 +270,14 @@ pub const REFUSED: [(&[u8], u64, u64); 87] = [
 
 /// Every text that is accepted, with its listing.
 pub fn accepted() -> impl Iterator<Item = (&'static [u8], &'static [u8])> {
-    chain(ACCEPTED, kronecker::ACCEPTED).chain(families::ACCEPTED).chain(free::ACCEPTED)
+    let others = chain(kronecker::ACCEPTED, families::ACCEPTED);
+    chain(ACCEPTED, others).chain(free::ACCEPTED).chain(dash::ACCEPTED)
 }
 
 /// Every text that is refused, with the refusal's number and line.
 pub fn refused() -> impl Iterator<Item = (&'static [u8], u64, u64)> {
-    chain(REFUSED, kronecker::REFUSED).chain(families::REFUSED).chain(free::REFUSED)
+    let others = chain(kronecker::REFUSED, families::REFUSED);
+    chain(REFUSED, others).chain(free::REFUSED).chain(dash::REFUSED)
 }
 
 #[cfg(test)]

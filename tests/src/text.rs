@@ -19,19 +19,24 @@ use listing::Listing;
 /// The kind of k: what the k field selects.
 #[derive(Clone, Copy, Debug, PartialEq, Eq)]
 pub enum Kind {
-    /// A class with mixed inputs, whose listings begin with `form` or `form2`: a digit, or `-` for 1, selects the block
-    /// class, `f` and a digit the free class.
+    /// A class with mixed inputs, whose listings begin with `form` or `form2`: a digit selects the block class, `f` and a
+    /// digit the free class, and so does `-`.
     Mixed(Class),
     /// The Kronecker expansions: `K`.
     Kronecker,
 }
 
 impl Kind {
-    /// The k field of a table text.
-    fn read(field: &[u8]) -> Option<Self> {
+    /// What `-` means with n inputs: "A k of `-` now means `f2`, or `f1` where n = 1."
+    pub fn of_dash(n: usize) -> Self {
+        Kind::Mixed(Class::Free(if n == 1 { 1 } else { 2 }))
+    }
+
+    /// The k field of a table text of n inputs.
+    fn read(field: &[u8], n: usize) -> Option<Self> {
         match field {
             b"K" => Some(Kind::Kronecker),
-            b"-" => Some(Kind::Mixed(Class::Block(1))),
+            b"-" => Some(Kind::of_dash(n)),
             _ => read_class(field).map(Kind::Mixed),
         }
     }
@@ -85,6 +90,11 @@ impl Design {
         Design { family, ..self }
     }
 
+    /// A design of family one for what `-` means.
+    pub fn dashed(n: usize, m: usize, table: Vec<u8>) -> Self {
+        Design { family: Family::One, n, m, kind: Kind::of_dash(n), table }
+    }
+
     /// A design for the Kronecker expansions.
     pub fn kronecker(n: usize, m: usize, table: Vec<u8>) -> Self {
         Design { family: Family::One, n, m, kind: Kind::Kronecker, table }
@@ -104,7 +114,7 @@ impl Design {
         self.text_with(&self.kind.field())
     }
 
-    /// The table text with this k field, which can be `-` for 1.
+    /// The table text with this k field, which can be `-`.
     pub fn text_with(&self, k: &str) -> Vec<u8> {
         let on = |(p, &byte): (usize, &u8)| match byte {
             0 => String::new(),
@@ -162,7 +172,8 @@ fn read_first(line: &Line) -> Result<Design, Refusal> {
 fn read_sizes(line: &Line) -> Option<(Family, usize, usize, Kind)> {
     let [word, n, m, k] = line.fields[..] else { return None };
     let family = Family::of_word(Family::table_word, word)?;
-    let (n, m, kind) = (read_digit(n)?, read_digit(m)?, Kind::read(k)?);
+    let (n, m) = (read_digit(n)?, read_digit(m)?);
+    let kind = Kind::read(k, n)?;
     ((family, kind) != (Family::Two, Kind::Kronecker)).then_some((family, n, m, kind))
 }
 

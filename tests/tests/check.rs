@@ -9,7 +9,7 @@ use outside_cases::family::Family;
 use outside_cases::lent::{Lent, answer, listed, written};
 use outside_cases::marked::families::{EXAMPLE_LISTING_TWO, EXAMPLE_TWO};
 use outside_cases::marked::pairs::{self, EXAMPLE_BEFORE, EXAMPLE_LISTING};
-use outside_cases::marked::{ACCEPTED, EXAMPLE, bytes, families, free, kronecker, refused};
+use outside_cases::marked::{ACCEPTED, EXAMPLE, bytes, dash, families, free, kronecker, refused};
 use outside_cases::seeded::Seeded;
 use outside_cases::seeded::listings::{
     any_listing, any_member, break_line, change_counts, change_cube, change_mask, change_outputs,
@@ -18,15 +18,15 @@ use outside_cases::seeded::listings::{
 };
 use outside_cases::seeded::tables::{longest_listing_table, random_table};
 use outside_cases::seeded::texts::{
-    TELLING_BYTES, damaged_text, kronecker_text, sound_text, with_k_somewhere, with_other_k,
-    with_other_lines, with_other_word,
+    TELLING_BYTES, damaged_text, dash_text_of, kronecker_text, sound_text, with_dash_for_k,
+    with_k_somewhere, with_other_k, with_other_lines, with_other_word,
 };
 use outside_cases::text::listing::Listing;
 use outside_cases::text::{Design, Kind, compile};
 use std::collections::BTreeMap;
 
 /// How many pairs are drawn, the same number of each sort.
-const PAIRS: usize = 13_760;
+const PAIRS: usize = 15_360;
 
 /// How often a sort gives each of its outcomes, at least.
 const LEAST: usize = 5;
@@ -114,7 +114,7 @@ struct Sort {
     pair: fn(&mut Seeded) -> Pair,
 }
 
-const SORTS: [Sort; 43] = [
+const SORTS: [Sort; 48] = [
     Sort { name: "our listing", outcomes: &[Same], pair: own_listing },
     Sort {
         name: "a character of a cube",
@@ -329,6 +329,41 @@ const SORTS: [Sort; 43] = [
         name: "f2, a literal outside M complemented, beside the table that the cubes give",
         outcomes: &[NotOfClass],
         pair: |seeded| complemented_literal(seeded, false),
+    },
+    Sort {
+        name: "our listing beside a text with a dash, or with what it means",
+        outcomes: &[Same],
+        pair: |seeded| {
+            let (design, text) = dashed(seeded);
+            let written_out = seeded.once_in(2);
+            Pair { listing: written(&text), text: if written_out { design.text() } else { text } }
+        },
+    },
+    Sort {
+        name: "any member beside a text with a dash, and one literal complemented",
+        outcomes: &[Same, Differs, NotOfClass],
+        pair: member_beside_dash,
+    },
+    Sort {
+        name: "a listing of any other k field beside a text with a dash",
+        outcomes: &[OtherListing],
+        pair: other_k_beside_dash,
+    },
+    Sort {
+        name: "the k field of a listing, with a dash or nearly so",
+        outcomes: &[BadListing],
+        pair: |seeded| {
+            let (_, text) = if seeded.once_in(2) { dashed(seeded) } else { drawn(seeded) };
+            Pair { listing: with_dash_for_k(seeded, &written(&text)), text }
+        },
+    },
+    Sort {
+        name: "the k field of a table text, with a dash or nearly so",
+        outcomes: &[Same, BadTable, OtherListing],
+        pair: |seeded| {
+            let (_, text) = drawn(seeded);
+            Pair { listing: written(&text), text: with_dash_for_k(seeded, &text) }
+        },
     },
 ];
 
@@ -557,6 +592,33 @@ fn complemented_literal(seeded: &mut Seeded, inside: bool) -> Pair {
     Pair { text: design.text(), listing: listing.bytes() }
 }
 
+/// A design of either family, mostly of few inputs, and its text with `-` for k.
+fn dashed(seeded: &mut Seeded) -> (Design, Vec<u8>) {
+    let most_inputs = if seeded.once_in(25) { 8 } else { 4 };
+    let family = *seeded.pick(&Family::ALL);
+    dash_text_of(seeded, family, most_inputs)
+}
+
+/// The listing of any member that gives the table beside its text with `-`, in two of three draws with one of its
+/// literals complemented.
+fn member_beside_dash(seeded: &mut Seeded) -> Pair {
+    let (design, text) = dashed(seeded);
+    let mut listing = any_listing(seeded, &design);
+    if !seeded.once_in(3) {
+        complement_where(seeded, &mut listing, |_| true);
+    }
+    Pair { text, listing: listing.bytes() }
+}
+
+/// The listing of any member of another class or of another k, which gives the table, beside the text with `-`.
+fn other_k_beside_dash(seeded: &mut Seeded) -> Pair {
+    let (design, text) = dashed(seeded);
+    let others = Class::every(design.n).filter(|&class| class != design.class());
+    let class = *seeded.pick(&others.collect::<Vec<Class>>());
+    let other = Design { kind: Kind::Mixed(class), ..design };
+    Pair { text, listing: any_listing(seeded, &other).bytes() }
+}
+
 /// Drawn pairs of each sort. A sort that no longer gives one of its outcomes fails.
 #[test]
 fn drawn_pairs() {
@@ -584,8 +646,8 @@ fn marked_pairs() {
 /// refused; a refused one is refused as it is by the reading call, whatever the listing is.
 #[test]
 fn marked_texts() {
-    let sound = ACCEPTED.into_iter().chain(families::ACCEPTED).chain(free::ACCEPTED);
-    for (text, listing) in sound {
+    let classes = free::ACCEPTED.into_iter().chain(dash::ACCEPTED);
+    for (text, listing) in ACCEPTED.into_iter().chain(families::ACCEPTED).chain(classes) {
         check_answer(&bytes(text), &bytes(listing), [0, 0, 1, 0]);
     }
     for (text, listing) in kronecker::ACCEPTED {

@@ -1,7 +1,8 @@
 //! The designs of `examples/`: `rmform` writes each stored listing, the evaluator agrees, and `rmcheck` says
 //! `same` of a `form` or `form2` listing and refuses a `kron` listing with 11, line 1; the design that is there
-//! with its outputs the other way round, the one with outputs left out, the one for both families, and the one of
-//! the free class beside every digit; and the edited listings of `examples/checks/`, with the line that `rmcheck` writes for each.
+//! with its outputs the other way round, the one with outputs left out, the one for both families, the one of the
+//! free class beside every digit, and those with `-` beside what it means; and the edited listings of
+//! `examples/checks/`, with the line that `rmcheck` writes for each.
 
 use outside_cases::check;
 use outside_cases::class::{Class, before_inverters};
@@ -41,7 +42,7 @@ fn first_word(text: &[u8]) -> &'static str {
 #[test]
 fn listings_are_written() {
     let tables = tables();
-    assert!(tables.len() >= 14, "{} designs", tables.len());
+    assert!(tables.len() >= 17, "{} designs", tables.len());
     for table in tables {
         let text = read(&table).expect("a table text");
         let listing = read(table.with_extension("listing")).expect("its listing");
@@ -130,30 +131,57 @@ fn free_class_beside_digits() {
     }
 }
 
-/// The listings of `examples/checks/` and the line for each beside the till's wake line, by hand.
-const CHECKS: [(&str, &str); 10] = [
-    ("against-i", "not of the class\n"),
-    ("block-disagrees", "not of the class\n"),
-    ("dearer", "same\n"),
-    ("differs", "differs\t4\n"),
-    ("inverted", "differs\t0\n"),
-    ("inverter-and-constant", "same\n"),
-    ("line-moved", "refused\t11\t5\n"),
-    ("no-inverters", "refused\t11\t2\n"),
-    ("other-family", "refused\t12\t1\n"),
-    ("term-removed", "refused\t12\t1\n"),
+/// The designs with `-`, of one input and of three, in both families: the listing is that of the text with `f1` or `f2`,
+/// which is shown.
+#[test]
+fn dash_beside_what_it_means() {
+    for (name, field) in
+        [("lid-contact", "f1"), ("bus-requests-dash", "f2"), ("bus-requests-family2", "f2")]
+    {
+        let table = directory().join(name).with_extension("table");
+        let (text, own) = (read(&table).expect("a table text"), table.with_extension("listing"));
+        let design = design(&text);
+        assert_eq!(text, design.text_with("-"), "{name}");
+        let listing = read(&own).expect("its listing");
+        assert_eq!(run(&[&design.text_with(field)], || ()), listing, "{name}");
+        let shown = listing.split(|&byte| byte == b'\t').nth(3);
+        assert_eq!(shown, Some(field.as_bytes()), "{name}");
+        let digit = Written::new(&design.text_with("1"));
+        assert_eq!(run_check(&[digit.path(), &own]).stdout, b"refused\t12\t1\n", "{name}");
+    }
+    let [written_out, dashed] = ["bus-requests.listing", "bus-requests-dash.listing"]
+        .map(|name| read(directory().join(name)).expect("a listing"));
+    assert_eq!(written_out, dashed);
+}
+
+const TILL: &str = "till-wake.table";
+const BUS: &str = "bus-requests-dash.table";
+
+/// The listings of `examples/checks/`, the table that each stands beside, and the line for it, by hand.
+const CHECKS: [(&str, &str, &str); 12] = [
+    ("against-i", TILL, "not of the class\n"),
+    ("block-disagrees", TILL, "not of the class\n"),
+    ("dash-shown", BUS, "refused\t11\t1\n"),
+    ("dearer", TILL, "same\n"),
+    ("differs", TILL, "differs\t4\n"),
+    ("digit-for-dash", BUS, "refused\t12\t1\n"),
+    ("inverted", TILL, "differs\t0\n"),
+    ("inverter-and-constant", TILL, "same\n"),
+    ("line-moved", TILL, "refused\t11\t5\n"),
+    ("no-inverters", TILL, "refused\t11\t2\n"),
+    ("other-family", TILL, "refused\t12\t1\n"),
+    ("term-removed", TILL, "refused\t12\t1\n"),
 ];
 
 #[test]
 fn edited_listings_are_judged() {
     let directory = directory();
-    let table = directory.join("till-wake.table");
-    let text = read(&table).expect("a table text");
     let edited = read_dir(directory.join("checks")).expect("the edited listings are there");
     assert_eq!(edited.count(), CHECKS.len());
-    for (name, line) in CHECKS {
+    for (name, table, line) in CHECKS {
+        let table = directory.join(table);
         let path = directory.join("checks").join(name).with_extension("listing");
-        let listing = read(&path).expect("an edited listing");
+        let [text, listing] = [&table, &path].map(|path| read(path).expect("a file"));
         assert_eq!(run_check(&[&table, &path]).stdout, line.as_bytes(), "{name}");
         assert_eq!(check::printed(&text, &listing), line.as_bytes(), "{name}");
     }

@@ -189,7 +189,7 @@ fn text_with_outputs_left_out() {
         let bytes = any_table(&mut seeded, n, m);
         for design in designs(&Table { n, m, bytes }) {
             check_left_out(&mut seeded, &design, Design::text);
-            if design.kind == Kind::Mixed(Class::Block(1)) {
+            if design.kind == Kind::of_dash(n) {
                 check_left_out(&mut seeded, &design, |design| design.text_with("-"));
             }
         }

@@ -13,8 +13,9 @@ use outside_cases::seeded::tables::{
     any_table, every_table, longest_free_listing_table, longest_listing_table, random_table,
 };
 use outside_cases::seeded::texts::{
-    F_FIELDS, K_FIELDS, TELLING_BYTES, WORD_ENDS, damaged_text, free_text_of, kronecker_text,
-    sound_text, sound_text_of, with_f_somewhere, with_k_somewhere, with_other_k, with_other_word,
+    DASH_FIELDS, F_FIELDS, K_FIELDS, TELLING_BYTES, WORD_ENDS, damaged_text, dash_text_of,
+    free_text_of, kronecker_text, sound_text, sound_text_of, with_dash_somewhere, with_f_somewhere,
+    with_k_somewhere, with_other_k, with_other_word,
 };
 use outside_cases::text::kron::KronListing;
 use outside_cases::text::listing::Listing;
@@ -400,6 +401,14 @@ fn f_everywhere() {
     letter_everywhere(68, &[EXAMPLE, one_input, EXAMPLE_TWO, FREE], b"f", &F_FIELDS);
 }
 
+/// A `-`, or nearly so, in every field of every line, and at every place of a text, with one input too.
+#[test]
+fn dash_everywhere() {
+    let one_input = b"table 1 2 -\non 0 01\nend\n";
+    let dashed = b"table 2 2 -\non 0 01\non 3 10\nend\n";
+    letter_everywhere(70, &[EXAMPLE, one_input, dashed, EXAMPLE_TWO, FREE], b"-", &DASH_FIELDS);
+}
+
 /// These fields in every field of every line, and this letter at every place of each text.
 fn letter_everywhere(seed: u64, texts: &[&[u8]], letter: &[u8], others: &[&str]) {
     let mut seeded = Seeded::new(seed);
@@ -565,5 +574,64 @@ fn every_small_free_table() {
                 check_text(&mut seeded, &design.clone().of_family(family).text());
             }
         }
+    }
+}
+
+/// With `-` a text is read and compiled as with `f1` for one input and with `f2` for more: the answers are the same, with
+/// the same bytes, and the listing has that field.
+fn check_dash(seeded: &mut Seeded, design: &Design) {
+    let field = if design.n == 1 { "f1" } else { "f2" };
+    let [dashed, written_out] = ["-", field].map(|field| design.text_with(field));
+    check_text(seeded, &dashed);
+    let table = seeded.bytes(256);
+    let read = [&dashed, &written_out].map(|text| {
+        let (answer, table) = run_read(text, &table);
+        (answer, table.inside().to_vec())
+    });
+    assert_eq!(read[0], read[1], "{}", dashed.escape_ascii());
+    let listing = written(&dashed);
+    assert_eq!(listing, written(&written_out), "{}", dashed.escape_ascii());
+    let shown = listing.split(|&byte| byte == b'\t' || byte == b'\n').nth(3);
+    assert_eq!(shown, Some(field.as_bytes()), "{}", dashed.escape_ascii());
+}
+
+/// Every table of at most two inputs and two outputs with `-`, in both families.
+#[test]
+fn every_small_dashed_table() {
+    let mut seeded = Seeded::new(91);
+    for (n, m) in [(1, 1), (1, 2), (2, 1), (2, 2)] {
+        for table in every_table(n, m) {
+            let design = Design::dashed(n, m, table);
+            for family in Family::ALL {
+                check_dash(&mut seeded, &design.clone().of_family(family));
+            }
+        }
+    }
+}
+
+/// Texts with `-` of every n and m, with tables of each sort, in both families.
+#[test]
+fn dashed_texts_of_every_size() {
+    let mut seeded = Seeded::new(92);
+    for (n, m) in (1..=8).flat_map(|n| (1..=8).map(move |m| (n, m))) {
+        for table in [any_table, random_table] {
+            let design = Design::dashed(n, m, table(&mut seeded, n, m));
+            for family in Family::ALL {
+                check_dash(&mut seeded, &design.clone().of_family(family));
+            }
+        }
+    }
+}
+
+/// Texts with `-` of either family with damage, with a `-` somewhere, and with other k fields.
+#[test]
+fn damaged_dashed_texts() {
+    let mut seeded = Seeded::new(93);
+    for round in 0..4000 {
+        let (family, most) = (Family::ALL[round % 2], if round % 50 == 0 { 6 } else { 3 });
+        let (_, text) = dash_text_of(&mut seeded, family, most);
+        let damage = [damaged_text, with_dash_somewhere, with_other_k, with_other_word][round % 4];
+        let damaged = damage(&mut seeded, &text);
+        check_text(&mut seeded, &damaged);
     }
 }

@@ -42,7 +42,7 @@ unfoldable pub minimumNumbers : Minimised → List ℕ
 minimumNumbers (minimised.Found M i products literals inverted) = 0 ∷ 0 ∷ M ∷ i ∷ products ∷ literals ∷ inverted ∷ []
 minimumNumbers (minimised.Refused number line) = number ∷ line ∷ 0 ∷ 0 ∷ 0 ∷ 0 ∷ 0 ∷ []
 
--- the kind of k of a class: 1 for a digit or `-`, and 3 for an `f` field
+-- the kind of k of a class: 1 for a digit, and 3 for an `f` field or `-`
 unfoldable pub classNumber : Class → ℕ
 classNumber Block = 1
 classNumber Free = 3

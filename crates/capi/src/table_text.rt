@@ -24,7 +24,7 @@ fn family_number(family: Family) -> u64
     }
 }
 
-// The kind of k of a class: 1 for a digit or `-`, and 3 for an `f` field.
+// The kind of k of a class: 1 for a digit, and 3 for an `f` field or `-`.
 fn class_number(class: Class) -> u64
     ensures { λ r. ⌜ r ≡ classNumber class ⌝ }
 {

@@ -3,3 +3,4 @@ pub mod Texts
 pub mod Examples
 pub mod FewerPins
 pub mod WiderFields
+pub mod DashField

@@ -3,7 +3,6 @@
 -- (`chosen-written`). So where a text is accepted, it is accepted with outputs left out, and means the chosen ones (`chosen-read`).
 use mathlib.Core.Bool.{false}
 use mathlib.Core.List.{List, [], _∷_, _++_, append-assoc}
-use mathlib.Core.Logic.{_⊎_, inl, inr}
 use mathlib.Core.Path.{_≡_, refl, sym, ap, ap₂, fun-ext, _∙_}
 use Prim.Native.Nat.{ℕ, zero, suc, _+_, _*_, _/_, _%_, _^_, _<_}
 use native.Mathlib.Decide.{ℕ-discrete}
@@ -19,9 +18,6 @@ use Rattle.numbers.proofs.Pack.{onesIn-ones}
 use Rattle.numbers.proofs.Xor.{low-lt}
 use Rattle.expansions.specs.declared.families.Family.{Family}
 use Rattle.expansions.specs.declared.families.Family.the-variants.{One, Two}
-use Rattle.expansions.specs.declared.kinds.Class.the-variants.{Block}
-use Rattle.expansions.specs.declared.kinds.Kind.{Kind}
-use Rattle.expansions.specs.declared.kinds.Kind.the-variants.{Mixed}
 use Rattle.expansions.specs.Split.{putDigit, gather}
 use Rattle.expansions.specs.Outputs.{IsChoice, chosenCount, chosenOutputs, chosenTable}
 use Rattle.expansions.proofs.Split.{gather-zero, gather-lt}
@@ -36,10 +32,10 @@ use Rattle.lines.proofs.RowLines.{plain-on}
 use Rattle.table_texts.specs.declared.sizes.Design.{Design}
 use Rattle.table_texts.specs.First.{tableWord}
 use Rattle.table_texts.specs.Read.{given, reading}
-use Rattle.table_texts.specs.TableTexts.{kindField, pointLine, pointLines, designLine, textWith}
+use Rattle.table_texts.specs.TableTexts.{pointLine, pointLines, designLine, textWith}
 use Rattle.table_texts.proofs.read.Accepted.{reading-accepted}
 use Rattle.table_texts.proofs.Acceptance.{text-accepted}
-use Rattle.table_texts.proofs.DesignLine.{kind-read, plain-table, plain-dash, plain-kind}
+use Rattle.table_texts.proofs.DesignLine.{plain-table, plain-said}
 use Rattle.table_texts.proofs.Exactness.{text-read}
 use Rattle.comparisons.specs.Choices.{chosenDesign, chosenCharacters, pointWith, chosenLine, chosenText}
 use Rattle.comparisons.proofs.Choices.{chosen-accepted}
@@ -75,10 +71,6 @@ no-end : (family : Family) (rest : List ℕ) → same (tableWord family ++ rest)
 unfolding tableWord same bytes
 no-end One rest = refl
 no-end Two rest = refl
-
-plain-field : (k : List ℕ) (x : Kind) → (k ≡ kindField x) ⊎ ((x ≡ Mixed Block 1) × (k ≡ bytes "-")) → Plain k
-plain-field k x (inl e) = rw e (plain-kind x)
-plain-field k x (inr e) = rw (e .1) plain-dash
 
 module _ (s : ℕ) where
   chosen-line : (word : List ℕ) (fs : List (List ℕ)) (rest : List ℕ) → Plain word → AllPlain fs
@@ -153,7 +145,7 @@ module _ (s : ℕ) where
       → reading (chosenText s text) ≡ given (chosenDesign s d) (chosenTable (d .m) s t)
   chosen-read text d t choice e =
       let read = text-read text d t e in
-      let plain = plain-field (read .kind-field) (d .kind) (kind-read (read .kind-field) (d .kind) (read .said)) in
+      let plain = plain-said (d .n) (read .kind-field) (d .kind) (read .said) in
       ap (λ (x : List ℕ). reading (chosenText s x)) (read .characters)
       ∙ ap reading (chosen-written (read .kind-field) d t choice plain)
-      ∙ text-accepted (read .kind-field) (chosenDesign s d) (chosenTable (d .m) s t) plain (read .said) (chosen-accepted d t s choice (reading-accepted text d t e))
+      ∙ text-accepted (read .kind-field) (chosenDesign s d) (chosenTable (d .m) s t) (read .said) (chosen-accepted d t s choice (reading-accepted text d t e))

@@ -1,3 +1,4 @@
 pub mod Choices
 pub mod FewerPins
 pub mod WiderFields
+pub mod DashField

@@ -46,7 +46,7 @@ use Rattle.fields.specs.Fields.{digit, oneDigit, mixedSaid, digitsFrom, wellFor
 use Rattle.lines.specs.Rows.{onRow, rowLine, unfinished, ended, laterLines}
 use Rattle.listings.specs.Kronecker.{letterByte, letterBytes, literalByte, kroneckerCube, kroneckerLine, kroneckerListing}
 use Rattle.table_texts.specs.Design.{designRefusal}
-use Rattle.table_texts.specs.First.{kindOf, tableWord, firstLine}
+use Rattle.table_texts.specs.First.{dashKind, kindOf, tableWord, firstLine}
 use Rattle.table_texts.specs.Read.{withDesign, judgedFirst, allLines, reading}
 use Rattle.text.specs.Compile.{answerListing}
 use Rattle.text.specs.Print.{refusedLine, printedFor, printed}
@@ -106,7 +106,7 @@ unfolding same agrees allAgree freeDesigns computed dearerTable neitherTable
     parts fields bytes tabbed line descending digitCount decimal cubeByte cube outputBytes
     mixedMark mixedField formWord formLine invLine cubeLine ifNonzero overNonzero listingWith listing
     allows cubeTrue literalsIn outputsSaid finished linesOf ofTerm overLines overTerms ofInv listingInverted listingValue listingProducts listingLiterals
-    digit oneDigit mixedSaid kindOf digitsFrom wellFormed number bits mask outputs headed familyOf tableWord firstLine onRow rowLine
+    digit oneDigit mixedSaid dashKind kindOf digitsFrom wellFormed number bits mask outputs headed familyOf tableWord firstLine onRow rowLine
     unfinished ended laterLines withDesign judgedFirst allLines reading answerListing printedFor printed
 free-agree = tt
 

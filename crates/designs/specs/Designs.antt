@@ -1,7 +1,7 @@
 -- Document 01, "Marked designs", its printed example, the limits that it names and some worked texts and listings, with designs for document 02's
--- `K`, for its two families, for its inverters, for fewer outputs and for its free class, as one table: "The marked designs form one proved table over the definitions with a
--- shared statement". A row is a question about the definitions and the numbers that answer it; bytes are numbers too. The one statement is that they are
--- equal, at every row (proofs/Designs, `designs-hold`).
+-- `K`, for its two families, for its inverters, for fewer outputs, for its free class and for `-`, as one table: "The marked designs form one proved table
+-- over the definitions with a shared statement". A row is a question about the definitions and the numbers that answer it; bytes are numbers too. The one
+-- statement is that they are equal, at every row (proofs/Designs, `designs-hold`).
 use mathlib.Core.List.{List, [], _∷_, _++_}
 use mathlib.Core.Path.{_≡_}
 use Prim.Native.Nat.{ℕ, zero, suc, _^_}
@@ -205,7 +205,15 @@ printedText = "table\t2\t2\t1\non\t0\t01\non\t1\t10\non\t2\t10\non\t3\t10\nend\n
 abbrev pub printedListing : String
 printedListing = "form\t2\t2\t1\t1\t2\t1\t2\ninv\t10\nterm\t00\t11\nend\n"
 
--- the same text for a part of family two
+-- the same text with `-` for k
+abbrev pub dashText : String
+dashText = "table\t2\t2\t-\non\t0\t01\non\t1\t10\non\t2\t10\non\t3\t10\nend\n"
+
+-- its listing: both inputs are mixed
+abbrev pub dashListing : String
+dashListing = "form\t2\t2\tf2\t3\t0\t1\t2\ninv\t10\nterm\t00\t11\nend\n"
+
+-- the text with `1` for a part of family two
 abbrev pub printedText2 : String
 printedText2 = "table2\t2\t2\t1\non\t0\t01\non\t1\t10\non\t2\t10\non\t3\t10\nend\n"
 
@@ -362,8 +370,8 @@ baseDesigns =
     -- "n = 2, k = 2 is accepted, n = 2, k = 3 is refusal 4."
     ∷ states (meaningOf "table\t2\t1\t2\nend\n") (accepted One 2 1 (Mixed Block 2) zeros)
     ∷ states (meaningOf "table\t2\t1\t3\nend\n") (refusal 4 1)
-    -- "k may be `-`, which means 1"
-    ∷ states (meaningOf "table\t2\t1\t-\nend\n") (accepted One 2 1 (Mixed Block 1) zeros)
+    -- "Digits keep the block class."
+    ∷ states (meaningOf "table\t2\t1\t1\nend\n") (accepted One 2 1 (Mixed Block 1) zeros)
     -- "In line 1 the order is 1, 2, 3, 4."
     ∷ states (meaningOf "table\t9\t9\tx\nend\n") (refusal 1 1)
     ∷ states (meaningOf "table\t9\t9\t9\nend\n") (refusal 2 1)
@@ -414,8 +422,8 @@ baseDesigns =
     ∷ states (listingOf Block Two 2 2 1 (recorded (0 ∷ 0 ∷ 0 ∷ 3 ∷ []) (0 ∷ 1 ∷ []) 1 2 1 2 1)) (bytes printedListing2)
     ∷ states (firstLineOf (bytes printedListing2)) (2 ∷ 2 ∷ 1 ∷ 1 ∷ 2 ∷ 1 ∷ 2 ∷ [])
     ∷ states (tableOf 2 (bytes printedListing2)) printedTable
-    -- with `table2` a `-` means 1, and the order of line 1 is the same
-    ∷ states (meaningOf "table2\t2\t1\t-\nend\n") (accepted Two 2 1 (Mixed Block 1) zeros)
+    -- with `table2` the order of line 1 is the same
+    ∷ states (meaningOf "table2\t2\t1\t1\nend\n") (accepted Two 2 1 (Mixed Block 1) zeros)
     ∷ states (meaningOf "table2\t9\t1\t1\nend\n") (refusal 2 1)
     ∷ states (meaningOf "table2\t8\t9\t9\nend\n") (refusal 3 1)
     ∷ states (meaningOf "table2\t2\t1\t3\nend\n") (refusal 4 1)
@@ -473,7 +481,7 @@ baseDesigns =
     ∷ states (tableOf 4 (bytes fourListing)) (set (replicate 16 0) 5 1)
     ∷ []
 
--- document 02, W-207: designs, texts and listings of the free class
+-- document 02, W-207 and W-208: designs, texts and listings of the free class, and texts with `-` for k
 unfoldable pub freeDesigns : List Design
 freeDesigns =
     -- "`f2` never costs more than `f1`, nor `f1` more than `f0`"
@@ -504,6 +512,20 @@ freeDesigns =
     ∷ states (meaningOf "table\t2\t1\tf\nend\n") (refusal 1 1)
     ∷ states (meaningOf "table\t2\t1\tf12\nend\n") (refusal 1 1)
     ∷ states (meaningOf "table\t2\t1\tF1\nend\n") (refusal 1 1)
+    -- "A k of `-` now means `f2`, or `f1` where n = 1.", in both families
+    ∷ states (meaningOf "table\t1\t1\t-\nend\n") (accepted One 1 1 (Mixed Free 1) zeros)
+    ∷ states (meaningOf "table\t2\t1\t-\nend\n") (accepted One 2 1 (Mixed Free 2) zeros)
+    ∷ states (meaningOf "table\t8\t8\t-\nend\n") (accepted One 8 8 (Mixed Free 2) zeros)
+    ∷ states (meaningOf "table2\t1\t1\t-\nend\n") (accepted Two 1 1 (Mixed Free 1) zeros)
+    ∷ states (meaningOf "table2\t3\t1\t-\nend\n") (accepted Two 3 1 (Mixed Free 2) zeros)
+    -- "A listing shows the k that was used.": n = 1 with only point 0 on, and the printed example, byte for byte
+    ∷ states (printedOf "table\t1\t1\t-\non\t0\t1\nend\n") (bytes "form\t1\t1\tf1\t1\t0\t1\t1\ninv\t0\nterm\t0\t1\nend\n")
+    ∷ states (printedOf "table2\t1\t1\t-\non\t0\t1\nend\n") (bytes "form2\t1\t1\tf1\t1\t0\t1\t1\ninv\t0\nterm\t0\t1\nend\n")
+    ∷ states (printedOf dashText) (bytes dashListing)
+    -- the order of line 1 is the same, and 4 cannot apply; `--` is no field
+    ∷ states (meaningOf "table\t0\t9\t-\nend\n") (refusal 2 1)
+    ∷ states (meaningOf "table\t1\t9\t-\nend\n") (refusal 3 1)
+    ∷ states (meaningOf "table\t9\t9\t--\nend\n") (refusal 1 1)
     ∷ []
 
 -- all of them

@@ -1,10 +1,11 @@
 -- When each answer is given, in document 02's words: beside a table whose k is a number (`answers-words`), and beside a `K` table (`kronecker-words`). For
--- every pair of byte strings: `check-words`.
+-- every pair of byte strings: `check-words`. A listing whose first line is wrong is refused by 11, line 1 (`kron-listing-refused`, `dash-listing-refused`), and a
+-- table text with `-` for k is judged as with what `-` means (`dash-checked`).
 use mathlib.Core.Bool.{Bool, true, false, cond}
-use mathlib.Core.List.{List}
+use mathlib.Core.List.{List, _++_}
 use mathlib.Core.Logic.{_⊎_, inl, inr}
 use mathlib.Core.Path.{_≡_, refl, sym, ap, _∙_}
-use Prim.Native.Nat.{ℕ, _^_, _≤_}
+use Prim.Native.Nat.{ℕ, _^_, _≤_, _<_}
 use native.Mathlib.Omega.{arith}
 use Rattle.numbers.specs.Bytes.{at}
 use Rattle.numbers.specs.Refusals.{Sized}
@@ -13,21 +14,26 @@ use Rattle.expansions.specs.declared.kinds.Kind.{Kind}
 use Rattle.expansions.specs.declared.kinds.Kind.the-variants.{Mixed, Kronecker}
 use Rattle.expansions.specs.Classes.{mostMixed}
 use Rattle.expansions.specs.Least.{Best, nothing, best}
+use Rattle.listings.specs.Parts.{parts, bytes, field}
 use Rattle.listings.specs.Meaning.{statedMixed, statedFixed}
 use Rattle.membership.specs.Class.{ofClass}
 use Rattle.table_texts.specs.declared.sizes.Sizes.{Sizes}
 use Rattle.table_texts.specs.declared.sizes.Design.{Design}
 use Rattle.table_texts.specs.Design.{mixedDesign}
+use Rattle.table_texts.specs.First.{dashKind}
+use Rattle.table_texts.specs.TableTexts.{kindField, designLine}
 use Rattle.table_texts.proofs.Design.{mixed-sized}
 use Rattle.table_texts.specs.Read as tables
 use Rattle.table_texts.proofs.read.Accepted.{reading-accepted}
+use Rattle.table_texts.proofs.Acceptance.{dash-written-out}
 use Rattle.listing_texts.specs.declared.form.Form.{Form}
-use Rattle.listing_texts.specs.Form.{KronListing}
+use Rattle.listing_texts.specs.declared.form.FirstLine.the-variants.{Wrong}
+use Rattle.listing_texts.specs.Form.{firstLine, KronListing}
 use Rattle.listing_texts.specs.Listings.{Passes}
 use Rattle.shown_rows.specs.Rows.{coefficientIn, complementedIn}
 use Rattle.listing_texts.specs.Read.{ListingReading, shown, refused, listingReading, besideKronecker}
 use Rattle.listing_texts.proofs.Exactness.{read-passes, passes-exactly}
-use Rattle.listing_texts.proofs.BesideKronecker.{form-exactly, other-exactly, beside-either, kron-beside, kron-read}
+use Rattle.listing_texts.proofs.BesideKronecker.{form-exactly, other-exactly, beside-either, wrong-beside, wrong-read, kron-wrong, dash-wrong}
 use Rattle.fitter.specs.declared.check.Checked.{Checked}
 use Rattle.fitter.specs.declared.check.Checked.the-variants.{Same, Differs, NotOfClass, Refused}
 use Rattle.fitter.specs.Differences.{invertedValue, firstDifference}
@@ -163,11 +169,24 @@ check-words text s r e =
           kronecker-words s r (e ∙ ap (λ (x : tables.Reading). checked x s) g ∙ ap (λ (x : Kind). judgedKind (d .family) (d .n) (d .m) x table s) k);
     }
 
--- "a `kron` listing is 11, line 1", beside every accepted table text
-pub kron-listing-refused : (text s : List ℕ) (d : Design) (table : List ℕ) → tables.reading text ≡ tables.given d table → KronListing s
-    → checked (tables.reading text) s ≡ Refused 11 1
-unfolding checked judgedDesign judged
-kron-listing-refused text s d table e k = ap (λ (x : tables.Reading). checked x s) e ∙ go (d .kind) where
-  go : (x : Kind) → judgedKind (d .family) (d .n) (d .m) x table s ≡ Refused 11 1
-  go (Mixed C j) = let z : Sizes = record { n = d .n; m = d .m; class = C; k = j; family = d .family } in ap (judged z table) (kron-read z s k)
-  go Kronecker = ap (λ (x : ℕ). Refused x 1) (kron-beside s k)
+-- a listing whose first line is wrong is 11, line 1, beside every accepted table text
+module _ (text s : List ℕ) (d : Design) (table : List ℕ) (accepted : tables.reading text ≡ tables.given d table) where
+  wrong-refused : firstLine (parts 10 s .first) ≡ Wrong → checked (tables.reading text) s ≡ Refused 11 1
+  unfolding checked judgedDesign judged
+  wrong-refused wrong = ap (λ (x : tables.Reading). checked x s) accepted ∙ go (d .kind) where
+    go : (x : Kind) → judgedKind (d .family) (d .n) (d .m) x table s ≡ Refused 11 1
+    go (Mixed C j) = let z : Sizes = record { n = d .n; m = d .m; class = C; k = j; family = d .family } in ap (judged z table) (wrong-read z s wrong)
+    go Kronecker = ap (λ (x : ℕ). Refused x 1) (wrong-beside s wrong)
+
+  -- "a `kron` listing is 11, line 1"
+  pub kron-listing-refused : KronListing s → checked (tables.reading text) s ≡ Refused 11 1
+  kron-listing-refused k = wrong-refused (kron-wrong s k)
+
+  -- a listing "shows the k that was used": one with `-` for it is broken
+  pub dash-listing-refused : field 3 (parts 10 s .first) ≡ bytes "-" → checked (tables.reading text) s ≡ Refused 11 1
+  dash-listing-refused k = wrong-refused (dash-wrong s k)
+
+-- "the check resolves a dash like the compiler": beside any listing, a text with `-` for k has the answer of the text with what `-` means written out
+pub dash-checked : (d : Design) (rest s : List ℕ) → d .n < 10 → d .m < 10
+    → checked (tables.reading (designLine d (bytes "-") ++ rest)) s ≡ checked (tables.reading (designLine d (kindField (dashKind (d .n))) ++ rest)) s
+dash-checked d rest s hn hm = ap (λ (x : tables.Reading). checked x s) (dash-written-out d rest hn hm)

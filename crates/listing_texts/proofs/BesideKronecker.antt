@@ -1,6 +1,6 @@
 -- Listings beside a `K` table, in document 02's words: the number is 12 exactly where the listing is a `form` or `form2` listing (`form-exactly`), and
--- else 11 (`other-exactly`). The first 8,192 bytes of a listing have the same number (`beside-first`). A `kron` listing is 11, line 1, beside
--- every table (`kron-beside`, `kron-read`).
+-- else 11 (`other-exactly`). The first 8,192 bytes of a listing have the same number (`beside-first`). A first line that is wrong is 11, line 1, beside
+-- every table (`wrong-beside`, `wrong-read`): that of a `kron` listing (`kron-wrong`), and one with `-` for k (`dash-wrong`).
 use mathlib.Core.Bool.{false, and-false}
 use mathlib.Core.List.{List, [], _∷_, _++_, append-assoc}
 use mathlib.Core.Logic.{_⊎_, inl, inr, _↔_}
@@ -18,12 +18,18 @@ use Rattle.listings.proofs.Joined.{parts-lines}
 use Rattle.listings.proofs.Lengths.{digitsOf-le, length-formWord, length-formLine, length-formFields}
 use Rattle.listings.proofs.Meaning.{plain-form}
 use Rattle.listings.proofs.Parts.{separated, parts-joined}
-use Rattle.fields.specs.Fields.{headed, familyOf}
+use Rattle.fields.specs.declared.words.FamilyRead.{FamilyRead}
+use Rattle.fields.specs.declared.words.FamilyRead.the-variants as family
+use Rattle.fields.specs.declared.values.Number.{Number}
+use Rattle.fields.specs.declared.values.Number.the-variants as number
+use Rattle.fields.specs.declared.values.MixedRead.the-variants as mixed
+use Rattle.fields.specs.Fields.{headed, familyOf, familyThen, digit, oneDigit, number, mixedSaid}
 use Rattle.table_texts.specs.declared.sizes.Sizes.{Sizes}
+use Rattle.listing_texts.specs.declared.form.SizesRead.the-variants as sizes
 use Rattle.listing_texts.specs.declared.form.Form.{Form}
 use Rattle.listing_texts.specs.declared.form.FirstLine.{FirstLine}
 use Rattle.listing_texts.specs.declared.form.FirstLine.the-variants.{States, Wrong}
-use Rattle.listing_texts.specs.Form.{firstLine, statedFields, FormListing, KronListing}
+use Rattle.listing_texts.specs.Form.{sizesOf, firstLine, statedFields, FormListing, KronListing}
 use Rattle.listing_texts.specs.Read.{refused, allLines, listingReading, besideLine, besideLines, besideKronecker}
 use Rattle.listing_texts.proofs.FormRead.{plain-stated, form-said, form-read}
 use Rattle.listing_texts.proofs.Length.{mark-le}
@@ -129,7 +135,25 @@ beside-first s = go (beside-either s) where
   go (inl e) = other-exactly (take 8192 s) .1 (λ g. other-exactly s .0 e (form-whole s g)) ∙ sym e
   go (inr e) = form-exactly (take 8192 s) .1 (form-first s (form-exactly s .0 e)) ∙ sym e
 
--- ---- a `kron` listing
+-- ---- a first line that is wrong
+
+wrong-lines : (l : List ℕ) (ls : List (List ℕ)) → firstLine l ≡ Wrong → besideLines l ls ≡ 11
+unfolding besideLines
+wrong-lines l [] e = refl
+wrong-lines l (l′ ∷ ls) e = ap besideLine e
+
+pub wrong-beside : (s : List ℕ) → firstLine (parts 10 s .first) ≡ Wrong → besideKronecker s ≡ 11
+unfolding besideKronecker
+wrong-beside s e = wrong-lines (parts 10 s .first) (parts 10 s .others) e
+
+wrong-all : (z : Sizes) (l : List ℕ) (ls : List (List ℕ)) → firstLine l ≡ Wrong → allLines z l ls ≡ refused 11 1
+unfolding allLines
+wrong-all z l [] e = refl
+wrong-all z l (l′ ∷ ls) e = rw e
+
+pub wrong-read : (z : Sizes) (s : List ℕ) → firstLine (parts 10 s .first) ≡ Wrong → listingReading z s ≡ refused 11 1
+unfolding listingReading
+wrong-read z s e = wrong-all z (parts 10 s .first) (parts 10 s .others) e
 
 -- no line of the word `kron` is a `form` or `form2` line
 kron-headed : (l : List ℕ) (family : Family) → field 0 l ≡ bytes "kron" → headed 8 (formWord family) l ≡ false
@@ -137,24 +161,29 @@ unfolding headed formWord same bytes
 kron-headed l One e = rw e (and-false (eqb (length (fields l)) 8))
 kron-headed l Two e = rw e (and-false (eqb (length (fields l)) 8))
 
-kron-wrong : (l : List ℕ) → field 0 l ≡ bytes "kron" → firstLine l ≡ Wrong
+pub kron-wrong : (s : List ℕ) → KronListing s → firstLine (parts 10 s .first) ≡ Wrong
 unfolding firstLine familyOf
-kron-wrong l e = rw (kron-headed l One e, kron-headed l Two e)
+kron-wrong s e = let l : List ℕ = parts 10 s .first in rw (kron-headed l One e, kron-headed l Two e)
 
-kron-lines : (l : List ℕ) (ls : List (List ℕ)) → field 0 l ≡ bytes "kron" → besideLines l ls ≡ 11
-unfolding besideLines
-kron-lines l [] e = refl
-kron-lines l (l′ ∷ ls) e = ap besideLine (kron-wrong l e)
+-- nor has one a `-` for k, which says no class
 
-pub kron-beside : (s : List ℕ) → KronListing s → besideKronecker s ≡ 11
-unfolding besideKronecker
-kron-beside s e = kron-lines (parts 10 s .first) (parts 10 s .others) e
+no-class : (family : Family) (n m : Number) → sizesOf family n m mixed.Wrong ≡ sizes.Wrong
+no-class family (number.Is n) (number.Is m) = refl
+no-class family (number.Is n) number.Wrong = refl
+no-class family number.Wrong m = refl
 
-kron-all : (z : Sizes) (l : List ℕ) (ls : List (List ℕ)) → field 0 l ≡ bytes "kron" → allLines z l ls ≡ refused 11 1
-unfolding allLines
-kron-all z l [] e = refl
-kron-all z l (l′ ∷ ls) e = rw (kron-wrong l e)
+no-family : (x : FamilyRead) → familyThen x Wrong (λ _. Wrong) ≡ Wrong
+no-family (family.Is x) = refl
+no-family family.Wrong = refl
 
-pub kron-read : (z : Sizes) (s : List ℕ) → KronListing s → listingReading z s ≡ refused 11 1
-unfolding listingReading
-kron-read z s e = kron-all z (parts 10 s .first) (parts 10 s .others) e
+dash-said : mixedSaid (bytes "-") ≡ mixed.Wrong
+unfolding mixedSaid oneDigit digit bytes
+dash-said = refl
+
+pub dash-wrong : (s : List ℕ) → field 3 (parts 10 s .first) ≡ bytes "-" → firstLine (parts 10 s .first) ≡ Wrong
+unfolding firstLine
+dash-wrong s e =
+    let l : List ℕ = parts 10 s .first in
+    let none : (family : Family) → sizesOf family (number 4 (field 1 l)) (number 4 (field 2 l)) (mixedSaid (field 3 l)) ≡ sizes.Wrong =
+    λ family. ap (sizesOf family (number 4 (field 1 l)) (number 4 (field 2 l))) (ap mixedSaid e ∙ dash-said) ∙ no-class family (number 4 (field 1 l)) (number 4 (field 2 l)) in
+    simp none (no-family (familyOf 8 (formWord One) (formWord Two) l))

@@ -1,6 +1,6 @@
 -- What a `form` or a `form2` listing means, read from its bytes alone: at every point the value of the expansion, inverted where the mask says
 -- (`listing-value`, `listing-inverted`), as many products and literals as it has (`listing-products`, `listing-literals`), their cubes (`listing-cubes`), and
--- the numbers of its record on the first line (`listing-numbers`).
+-- the numbers of its record on the first line (`listing-numbers`), with the field k of its class (`listing-field`).
 use mathlib.Core.Bool.{Bool, false}
 use mathlib.Core.List.{List, [], _∷_, _++_, append-assoc, append-nil}
 use mathlib.Core.Path.{_≡_, refl, ap, ap₂, _∙_}
@@ -24,14 +24,14 @@ use Rattle.expansions.specs.Costs.{counted, products, literals}
 use Rattle.expansions.specs.Members.{polarity}
 use Rattle.search.specs.declared.expansion.Expansion.{Expansion}
 use Rattle.expansions.proofs.Costs.{products-le}
-use Rattle.listings.specs.Parts.{bytes, same}
-use Rattle.listings.specs.Listing.{tabbed, line, decimal, cube, outputBytes, mixedMark, mixedField, formFields, formWord, formLine, invLine, cubeLines, printedCubes, listingWith, listing}
+use Rattle.listings.specs.Parts.{Parts, parts, bytes, same, fields, field}
+use Rattle.listings.specs.Listing.{tabbed, line, cube, outputBytes, mixedMark, mixedField, formFields, fieldsOf, formWord, formLine, invLine, cubeLines, printedCubes, listingWith, listing}
 use Rattle.listings.specs.inner.Listable.{Listable}
 use Rattle.listings.specs.Meaning.{outputsSaid, listingInverted, listingValue, listingProducts, listingLiterals, listingCubes, numberSaid, firstNumbers, statedProducts, statedLiterals}
 use Rattle.listings.proofs.Cubes.{cube-holds, cube-literals, outputs-said, decimal-said}
-use Rattle.listings.proofs.Joined.{Plain, AllPlain}
+use Rattle.listings.proofs.Joined.{Plain, AllPlain, parts-fields, parts-lines}
 use Rattle.listings.proofs.Meaning.{plain-decimal, plain-numbers, plain-cube, plain-outputs, plain-form, plain-inv, Heading, heading-line, heading-append, over-terms}
-use Rattle.listings.proofs.Meaning.{cubes-inverted, cubes-value, cubes-products, cubes-literals, Small, numbers-said, heading-numbers}
+use Rattle.listings.proofs.Meaning.{cubes-inverted, cubes-value, cubes-products, cubes-literals, Small, numbers-said}
 
 -- ---- what stands before the products
 
@@ -91,29 +91,46 @@ module _ (family : Family) (fs : List (List ℕ)) (plain : AllPlain fs) (v n m :
       cubes-literals _ _ _ (form-heading family fs m v plain) n m x c (λ t. plain-cube n t (w t))
       ∙ fold-ext _+_ (2 ^ n) _ _ (λ t l. ap (λ (x : ℕ). counted (c t) x) (cube-literals n t _ l))
 
+  -- the first line, without its end
+  listing-first : parts 10 (listingWith family fs v n m w c) .first ≡ formWord family ++ tabbed fs
+  unfolding listingWith formLine
+  listing-first =
+      let terms : List ℕ = cubeLines m (λ t. cube n t (w t)) c (2 ^ n) in
+      let last : List ℕ = line (bytes "end") [] in
+      ap (λ (s : List ℕ). parts 10 s .first)
+      (append-assoc (formLine family fs ++ invLine m v) terms last ∙ append-assoc (formLine family fs) (invLine m v) (terms ++ last))
+      ∙ ap (λ (p : Parts). p .first) (parts-lines (formWord family) fs (invLine m v ++ (terms ++ last)) (plain-form family) plain)
+
 -- ---- the first line
 
-plain-mark : (C : Class) (f : List ℕ) → Plain f → Plain (mixedMark C ++ f)
-unfolding mixedMark bytes
-plain-mark Block f p = p
-plain-mark Free f p = (lit< tt, p)
+pub plain-mixedField : (C : Class) (k : ℕ) → Plain (mixedField C k)
+unfolding mixedField mixedMark bytes
+plain-mixedField Block k = plain-decimal k
+plain-mixedField Free k = (lit< tt, plain-decimal k)
 
 -- the fields of a first line are free of separators
 pub plain-fields : (C : Class) (n m k M i p l : ℕ) → AllPlain (formFields C n m k M i p l)
-unfolding mixedField
-plain-fields C n m k M i p l = (plain-decimal n, (plain-decimal m, (plain-mark C (decimal k) (plain-decimal k), plain-numbers (M ∷ i ∷ p ∷ l ∷ []))))
+plain-fields C n m k M i p l = (plain-decimal n, (plain-decimal m, (plain-mixedField C k, plain-numbers (M ∷ i ∷ p ∷ l ∷ []))))
 
 -- the numbers that a `form` or a `form2` listing states on its first line
 pub listing-numbers : (family : Family) (C : Class) (n m k M i p l v : ℕ) (w c : ℕ → ℕ) → Small (n ∷ m ∷ M ∷ i ∷ p ∷ l ∷ [])
     → firstNumbers (listingWith family (formFields C n m k M i p l) v n m w c) ≡ n ∷ m ∷ numberSaid 0 (mixedField C k) ∷ M ∷ i ∷ p ∷ l ∷ []
-unfolding listingWith formLine
+unfolding firstNumbers
 listing-numbers family C n m k M i p l v w c (hn, (hm, small)) =
     let fs : List (List ℕ) = formFields C n m k M i p l in
-    let terms : List ℕ = cubeLines m (λ t. cube n t (w t)) c (2 ^ n) in
-    ap firstNumbers
-    (append-assoc (formLine family fs ++ invLine m v) terms (line (bytes "end") []) ∙ append-assoc (formLine family fs) (invLine m v) (terms ++ line (bytes "end") []))
-    ∙ heading-numbers (formWord family) fs _ (plain-form family) (plain-fields C n m k M i p l)
-    ∙ rw (decimal-said n hn, decimal-said m hm) (ap (λ (xs : List ℕ). n ∷ m ∷ numberSaid 0 (mixedField C k) ∷ xs) (numbers-said (M ∷ i ∷ p ∷ l ∷ []) small))
+    let plain = plain-fields C n m k M i p l in
+    rw (listing-first family fs plain v n m w c, parts-fields (formWord family) fs (plain-form family) plain, decimal-said n hn, decimal-said m hm) (ap (λ (xs : List ℕ). n ∷ m ∷ numberSaid 0 (mixedField C k) ∷ xs) (numbers-said (M ∷ i ∷ p ∷ l ∷ []) small))
+
+-- the field k on the first line of the listing of a class
+pub listing-field : (C : Class) (family : Family) (n m k : ℕ) (e : Expansion) → field 3 (parts 10 (listing C family n m k e) .first) ≡ mixedField C k
+unfolding listing fields
+listing-field C family n m k e =
+    let fs : List (List ℕ) = fieldsOf C n m k e in
+    let plain = plain-fields C n m k (e .mixed) (e .fixed) (e .products) (e .literals) in
+    rw (
+      listing-first family fs plain (e .inverted) n m (polarity C n k (e .mixed) (e .fixed) (at (e .blocks))) (at (e .coefficients)),
+      parts-fields (formWord family) fs (plain-form family) plain,
+    )
 
 module _ (C : Class) (family : Family) (n m k : ℕ) (e : Expansion) (f : Listable n m e) (few : e .literals < 10000) where
   small-numbers : Small (n ∷ m ∷ e .mixed ∷ e .fixed ∷ e .products ∷ e .literals ∷ [])

@@ -1,24 +1,25 @@
 -- The first line of a table text. It is read as the design that it was written for (`design-said`), and a line that says a design is the line that
--- is written for it, with the characters of its kind of k, or where this is document 01's class with 1 mixed input with `-` (`design-read`,
--- `kind-read`). With `table2` and `K` it is refused by 1 (`kronecker-two`).
+-- is written for it, with the characters of its kind of k, or where this is what `-` means with `-` (`design-read`, `kind-read`). With `table2` and `K` it
+-- is refused by 1 (`kronecker-two`).
 use mathlib.Core.Bool.{Bool, true, false, cond}
 use mathlib.Core.List.{List, [], _∷_, _++_}
 use mathlib.Core.Logic.{_⊎_, inl, inr}
 use mathlib.Core.Path.{_≡_, refl, sym, ap, ap₂, _∙_}
 use Prim.Native.Nat.{ℕ, _<_}
 use native.Mathlib.Omega.{arith}
-use lib.Dec.{lit<}
+use lib.Dec.{eqb, lit<}
 use Rattle.expansions.specs.declared.families.Family.{Family}
 use Rattle.expansions.specs.declared.families.Family.the-variants.{One, Two}
 use Rattle.expansions.specs.declared.kinds.Class.{Class}
-use Rattle.expansions.specs.declared.kinds.Class.the-variants.{Block, Free}
+use Rattle.expansions.specs.declared.kinds.Class.the-variants.{Free}
 use Rattle.expansions.specs.declared.kinds.Kind.{Kind}
 use Rattle.expansions.specs.declared.kinds.Kind.the-variants.{Mixed, Kronecker}
 use Rattle.expansions.proofs.Classes.{most-three}
 use Rattle.listings.specs.Parts.{parts, bytes, same, fields, field}
-use Rattle.listings.specs.Listing.{tabbed, decimal, mixedMark, mixedField}
+use Rattle.listings.specs.Listing.{tabbed, decimal, mixedField}
 use Rattle.listings.proofs.Joined.{Plain, AllPlain, parts-fields}
 use Rattle.listings.proofs.Meaning.{plain-decimal}
+use Rattle.listings.proofs.Forms.{plain-mixedField}
 use Rattle.listings.proofs.Words.{same-equal}
 use Rattle.fields.specs.declared.words.FamilyRead.{FamilyRead}
 use Rattle.fields.specs.declared.words.FamilyRead.the-variants as family
@@ -36,7 +37,7 @@ use Rattle.table_texts.specs.declared.first.FirstLine.the-variants as fi
 use Rattle.table_texts.specs.declared.sizes.Design.{Design}
 use Rattle.table_texts.specs.declared.read.ReadAnswer.the-variants as answer
 use Rattle.table_texts.specs.Design.{designRefusal, KindSized}
-use Rattle.table_texts.specs.First.{mixedKind, kindOf, tableLine, tableWord, firstLine}
+use Rattle.table_texts.specs.First.{mixedKind, dashKind, kindOf, kindThen, tableLine, tableWord, firstLine}
 use Rattle.table_texts.specs.Read.{judgedFirst}
 use Rattle.table_texts.specs.TableTexts.{kindField}
 
@@ -51,27 +52,35 @@ other-than w f C k wrong said = go (same f w) refl where
       let both : mixed.Wrong ≡ mixed.Is C k = sym wrong ∙ ap mixedSaid (sym (same-equal f w h)) ∙ said in
       let z : _≡_ {A = ℕ} 0 1 = cc in absurd (omega arith)
 
-pub kind-mixed : (C : Class) (k : ℕ) → k < 10 → kindOf (mixedField C k) ≡ kind.Is (Mixed C k)
+pub kind-mixed : (n : ℕ) (C : Class) (k : ℕ) → k < 10 → kindOf n (mixedField C k) ≡ kind.Is (Mixed C k)
 unfolding kindOf mixedSaid oneDigit digit bytes
-kind-mixed C k h =
+kind-mixed n C k h =
     let said = mixed-said C k h in
     let dash = other-than (bytes "-") (mixedField C k) C k refl said in
     let letter = other-than (bytes "K") (mixedField C k) C k refl said in
     rw (dash, letter) (ap mixedKind said)
 
-pub kind-dash : kindOf (bytes "-") ≡ kind.Is (Mixed Block 1)
+pub kind-dash : (n : ℕ) → kindOf n (bytes "-") ≡ kind.Is (dashKind n)
 unfolding kindOf same bytes
-kind-dash = refl
+kind-dash n = refl
 
-pub kind-kronecker : kindOf (bytes "K") ≡ kind.Is Kronecker
+pub kind-kronecker : (n : ℕ) → kindOf n (bytes "K") ≡ kind.Is Kronecker
 unfolding kindOf same bytes
-kind-kronecker = refl
+kind-kronecker n = refl
 
 -- the characters that are written for a kind say it
-pub kind-said : (n : ℕ) (x : Kind) → KindSized n x → kindOf (kindField x) ≡ kind.Is x
+pub kind-said : (n : ℕ) (x : Kind) → KindSized n x → kindOf n (kindField x) ≡ kind.Is x
 unfolding kindField
-kind-said n (Mixed C k) s = kind-mixed C k (omega (arith, s .0, most-three C))
-kind-said n Kronecker s = kind-kronecker
+kind-said n (Mixed C k) s = kind-mixed n C k (omega (arith, s .0, most-three C))
+kind-said n Kronecker s = kind-kronecker n
+
+-- and so do those for what `-` means, whether or not it is within the limits
+pub dash-said : (n : ℕ) → kindOf n (kindField (dashKind n)) ≡ kind.Is (dashKind n)
+unfolding kindField dashKind
+dash-said n = go (eqb n 1) where
+  go : (t : Bool) → kindOf n (mixedField Free (cond t 1 2)) ≡ kind.Is (Mixed Free (cond t 1 2))
+  go true = kind-mixed n Free 1 (lit< tt)
+  go false = kind-mixed n Free 2 (lit< tt)
 
 wrong-kind : {x : Kind} → kind.Wrong ≡ kind.Is x → ⊥
 wrong-kind e = let z : _≡_ {A = ℕ} 0 1 = cc in omega arith
@@ -83,13 +92,13 @@ class-read f x (mixed.Is C k) h e =
     mixed-read f C k h .0 ∙ ap kindField same
 class-read f x mixed.Wrong h e = absurd (wrong-kind e)
 
--- characters that say a kind are those that are written for it, or `-` for 1
-pub kind-read : (f : List ℕ) (x : Kind) → kindOf f ≡ kind.Is x → (f ≡ kindField x) ⊎ ((x ≡ Mixed Block 1) × (f ≡ bytes "-"))
+-- characters that say a kind are those that are written for it, or `-` where it means this kind
+pub kind-read : (n : ℕ) (f : List ℕ) (x : Kind) → kindOf n f ≡ kind.Is x → (f ≡ kindField x) ⊎ ((x ≡ dashKind n) × (f ≡ bytes "-"))
 unfolding kindOf kindField
-kind-read f x e = go (same f (bytes "-")) refl (same f (bytes "K")) refl e where
+kind-read n f x e = go (same f (bytes "-")) refl (same f (bytes "K")) refl e where
   go : (t : Bool) → same f (bytes "-") ≡ t → (u : Bool) → same f (bytes "K") ≡ u
-      → cond t (kind.Is (Mixed Block 1)) (cond u (kind.Is Kronecker) (mixedKind (mixedSaid f))) ≡ kind.Is x
-      → (f ≡ kindField x) ⊎ ((x ≡ Mixed Block 1) × (f ≡ bytes "-"))
+      → cond t (kind.Is (dashKind n)) (cond u (kind.Is Kronecker) (mixedKind (mixedSaid f))) ≡ kind.Is x
+      → (f ≡ kindField x) ⊎ ((x ≡ dashKind n) × (f ≡ bytes "-"))
   go true h u k g = inr (cc, same-equal f (bytes "-") h)
   go false h true k g =
       let is : Kronecker ≡ x = cc in
@@ -112,17 +121,23 @@ unfolding bytes
 plain-dash = (lit< tt, tt)
 
 pub plain-kind : (x : Kind) → Plain (kindField x)
-unfolding kindField mixedField mixedMark bytes
-plain-kind (Mixed Block k) = plain-decimal k
-plain-kind (Mixed Free k) = (lit< tt, plain-decimal k)
+unfolding kindField bytes
+plain-kind (Mixed C k) = plain-mixedField C k
 plain-kind Kronecker = (lit< tt, tt)
 
-pub design-said : (d : Design) (k : List ℕ) → d .n < 10 → d .m < 10 → Plain k → kindOf k ≡ kind.Is (d .kind)
+-- the characters that say a kind are free of separators
+pub plain-said : (n : ℕ) (f : List ℕ) (x : Kind) → kindOf n f ≡ kind.Is x → Plain f
+plain-said n f x e = go (kind-read n f x e) where
+  go : (f ≡ kindField x) ⊎ ((x ≡ dashKind n) × (f ≡ bytes "-")) → Plain f
+  go (inl h) = rw h (plain-kind x)
+  go (inr h) = rw (h .1) plain-dash
+
+pub design-said : (d : Design) (k : List ℕ) → d .n < 10 → d .m < 10 → kindOf (d .n) k ≡ kind.Is (d .kind)
     → firstLine (tableWord (d .family) ++ tabbed (decimal (d .n) ∷ decimal (d .m) ∷ k ∷ [])) ≡ first.Table d
 unfolding firstLine fields
-design-said d k hn hm p e =
+design-said d k hn hm e =
     let fs : List (List ℕ) = decimal (d .n) ∷ decimal (d .m) ∷ k ∷ [] in
-    let plain : AllPlain fs = (plain-decimal (d .n), (plain-decimal (d .m), (p, tt))) in
+    let plain : AllPlain fs = (plain-decimal (d .n), (plain-decimal (d .m), (plain-said (d .n) k (d .kind) e, tt))) in
     rw (
       family-said tableWord plain-table other-word (d .family) fs plain,
       parts-fields (tableWord (d .family)) fs (plain-table (d .family)) plain,
@@ -136,7 +151,7 @@ pub kronecker-two : (n m : ℕ) → n < 10 → m < 10
     → judgedFirst (firstLine (tableWord Two ++ tabbed (decimal n ∷ decimal m ∷ kindField Kronecker ∷ []))) ≡ answer.Refused 1 1
 unfolding judgedFirst designRefusal kindField
 kronecker-two n m hn hm =
-    rw (design-said (record { n = n; m = m; kind = Kronecker; family = Two }) (kindField Kronecker) hn hm (plain-kind Kronecker) kind-kronecker)
+    rw (design-said (record { n = n; m = m; kind = Kronecker; family = Two }) (kindField Kronecker) hn hm (kind-kronecker n))
 
 -- ---- what is read is what is written
 
@@ -144,29 +159,36 @@ kronecker-two n m hn hm =
 pub record DesignRead (l : List ℕ) (d : Design) : Type 0 where
   pub kind-field : List ℕ
   pub characters : l ≡ tableWord (d .family) ++ tabbed (decimal (d .n) ∷ decimal (d .m) ∷ kind-field ∷ [])
-  pub said : kindOf kind-field ≡ kind.Is (d .kind)
+  pub said : kindOf (d .n) kind-field ≡ kind.Is (d .kind)
 
 wrong-table : {d : Design} → first.Wrong ≡ first.Table d → ⊥
 wrong-table e = let z : _≡_ {A = ℕ} 0 1 = cc in omega arith
 
-table-read : (family : Family) (x y : Number) (w : KindRead) (d : Design) → tableLine family x y w ≡ first.Table d
-    → (x ≡ Is (d .n)) × (y ≡ Is (d .m)) × (w ≡ kind.Is (d .kind)) × (family ≡ d .family)
-table-read family (Is a) (Is b) (kind.Is c) d e =
+kind-then : (family : Family) (a b : ℕ) (w : KindRead) (d : Design)
+    → kindThen w (λ x. first.Table (record { n = a; m = b; kind = x; family = family })) ≡ first.Table d
+    → (a ≡ d .n) × (b ≡ d .m) × (w ≡ kind.Is (d .kind)) × (family ≡ d .family)
+kind-then family a b (kind.Is c) d e =
     let same : record { n = a; m = b; kind = c; family = family } ≡ d = cc in
-    (ap (λ (y : Design). Is (y .n)) same, ap (λ (y : Design). Is (y .m)) same, ap (λ (y : Design). kind.Is (y .kind)) same, ap (λ (y : Design). y .family) same)
-table-read family (Is a) (Is b) kind.Wrong d e = absurd (wrong-table e)
-table-read family (Is a) Wrong w d e = absurd (wrong-table e)
-table-read family Wrong y w d e = absurd (wrong-table e)
+    (ap (λ (y : Design). y .n) same, ap (λ (y : Design). y .m) same, ap (λ (y : Design). kind.Is (y .kind)) same, ap (λ (y : Design). y .family) same)
+kind-then family a b kind.Wrong d e = absurd (wrong-table e)
+
+table-read : (family : Family) (x y : Number) (f : List ℕ) (d : Design) → tableLine family x y f ≡ first.Table d
+    → (x ≡ Is (d .n)) × (y ≡ Is (d .m)) × (kindOf (d .n) f ≡ kind.Is (d .kind)) × (family ≡ d .family)
+table-read family (Is a) (Is b) f d e =
+    let said = kind-then family a b (kindOf a f) d e in
+    (ap Is (said .0), ap Is (said .1), ap (λ (y : ℕ). kindOf y f) (sym (said .0)) ∙ said .2, said .3)
+table-read family (Is a) Wrong f d e = absurd (wrong-table e)
+table-read family Wrong y f d e = absurd (wrong-table e)
 
 pub design-read : (l : List ℕ) (d : Design) → firstLine l ≡ first.Table d → DesignRead l d
 unfolding firstLine fields
 design-read l d e = go (familyOf 4 (tableWord One) (tableWord Two) l) refl e where
   go : (x : FamilyRead) → familyOf 4 (tableWord One) (tableWord Two) l ≡ x
-      → familyThen x first.Wrong (λ y. tableLine y (oneDigit (field 1 l)) (oneDigit (field 2 l)) (kindOf (field 3 l))) ≡ first.Table d → DesignRead l d
+      → familyThen x first.Wrong (λ y. tableLine y (oneDigit (field 1 l)) (oneDigit (field 2 l)) (field 3 l)) ≡ first.Table d → DesignRead l d
   go family.Wrong h g = absurd (wrong-table g)
   go (family.Is y) h g =
       let shape = family-read tableWord 3 l y h in
-      let said = table-read y (oneDigit (field 1 l)) (oneDigit (field 2 l)) (kindOf (field 3 l)) d g in
+      let said = table-read y (oneDigit (field 1 l)) (oneDigit (field 2 l)) (field 3 l) d g in
       let three = list-each (parts 9 l .others) 3 (shape .1) in
       record {
         kind-field = field 3 l;

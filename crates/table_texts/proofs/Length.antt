@@ -17,8 +17,7 @@ use Rattle.numbers.specs.Sums.{foldBelow, sumBelow}
 use Rattle.numbers.proofs.Nonzero.{nonzero-some, overNonzero-zero}
 use Rattle.expansions.specs.declared.families.Family.{Family}
 use Rattle.expansions.specs.declared.families.Family.the-variants.{One, Two}
-use Rattle.expansions.specs.declared.kinds.Class.{Class}
-use Rattle.expansions.specs.declared.kinds.Class.the-variants.{Block, Free}
+use Rattle.expansions.specs.declared.kinds.Class.the-variants.{Free}
 use Rattle.expansions.specs.declared.kinds.Kind.{Kind}
 use Rattle.expansions.specs.declared.kinds.Kind.the-variants.{Mixed, Kronecker}
 use Rattle.expansions.proofs.Classes.{most-three}
@@ -27,7 +26,7 @@ use Rattle.table_texts.specs.Design.{KindSized, KindFor}
 use Rattle.table_texts.specs.Accepted.{Accepted}
 use Rattle.listings.specs.Parts.{bytes}
 use Rattle.listings.specs.Listing.{tabbed, line, digitCount, descending, decimal, mixedMark, mixedField}
-use Rattle.table_texts.specs.First.{tableWord}
+use Rattle.table_texts.specs.First.{dashKind, tableWord}
 use Rattle.table_texts.specs.Read.{given, reading}
 use Rattle.table_texts.proofs.read.Accepted.{reading-accepted}
 use Rattle.listings.proofs.Characters.{length-decimal, length-outputs}
@@ -112,7 +111,7 @@ length-tableWord Two = omega arith
 pub accepted-text-length : (s : List ℕ) (d : Design) (t : List ℕ) → reading s ≡ given d t → length s ≤ 4004
 unfolding tableText dashText
 accepted-text-length s d t e = go (reading-accepted s d t e) (accepted-text s d t e) where
-  go : Accepted d t → (s ≡ tableText d t) ⊎ ((d .kind ≡ Mixed Block 1) × (s ≡ dashText d t)) → length s ≤ 4004
+  go : Accepted d t → (s ≡ tableText d t) ⊎ ((d .kind ≡ dashKind (d .n)) × (s ≡ dashText d t)) → length s ≤ 4004
   go g (inl h) =
       rw h (omega (arith, text-length (kindField (d .kind)) d t g, length-kind (d .n) (d .kind) (g .sized .mixed), length-tableWord (d .family)))
   go g (inr h) = rw (h .1) (omega (arith, text-length (bytes "-") d t g, length-dash, length-tableWord (d .family)))

@@ -42,12 +42,14 @@ abbrev pub opened : ReadAnswer → (Design → Reading) → Reading
 opened (answer.Given design) next = next design
 opened (answer.Refused number line) next = refused number line
 
--- the first line, and the lines after it: "Points not listed are all zero."
+-- the lines after the first, from line 2 on, of the design that the first one says: "Points not listed are all zero."
+abbrev pub fromSecond : List ℕ → List (List ℕ) → Design → Reading
+fromSecond l ls design = withDesign design (laterLines (rowLine (tableGrammar (design .n) (design .m))) (design .n) 2 0 (replicate 256 0) l ls)
+
+-- the first line, and the lines after it
 unfoldable pub allLines : List ℕ → List (List ℕ) → Reading
 allLines l [] = refused (unfinished l) 1
-allLines l (l′ ∷ ls) =
-    opened (judgedFirst (firstLine l))
-    (λ design. withDesign design (laterLines (rowLine (tableGrammar (design .n) (design .m))) (design .n) 2 0 (replicate 256 0) l′ ls))
+allLines l (l′ ∷ ls) = opened (judgedFirst (firstLine l)) (fromSecond l′ ls)
 
 -- "Each line ends with byte 10": what a text means
 unfoldable pub reading : List ℕ → Reading

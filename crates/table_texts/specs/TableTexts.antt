@@ -38,6 +38,6 @@ textWith k d t = designLine d k ++ pointLines (d .m) (at t) (2 ^ d .n) ++ line (
 unfoldable pub tableText : Design → List ℕ → List ℕ
 tableText d t = textWith (kindField (d .kind)) d t
 
--- "k may be `-`, which means 1": the text with `-` for k
+-- "k may be `-`": the text with `-` for k
 unfoldable pub dashText : Design → List ℕ → List ℕ
 dashText d t = textWith (bytes "-") d t

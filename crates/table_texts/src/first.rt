@@ -13,7 +13,7 @@ use fields::words::family_of;
 use fields::words::field;
 use fields::words::same;
 ghost use mathlib.Core.Path.{_≡_};
-ghost use Rattle.table_texts.specs.First.{kindOf, tableLine, firstLine};
+ghost use Rattle.table_texts.specs.First.{dashKind, kindOf, tableLine, firstLine};
 
 // What a field k says.
 pub enum KindRead {
@@ -27,12 +27,22 @@ pub enum FirstLine {
     Wrong,
 }
 
-// The field k: a digit, `f` and a digit for the free class, `-` for 1, or `K` for the Kronecker expansions.
-fn kind_of(field: &[u8]) -> KindRead
-    ensures { λ r. ⌜ r ≡ kindOf (now (field .entry)) ⌝ }
+// What `-` as the field k means for n inputs: `f2`, or `f1` where n is 1. No other function says what it means.
+fn dash_kind(n: usize) -> Kind
+    ensures { λ r. ⌜ r ≡ dashKind n ⌝ }
+{
+    if n == 1 {
+        return Kind::Mixed(Class::Free, 1);
+    }
+    Kind::Mixed(Class::Free, 2)
+}
+
+// The field k of a table of n inputs: a digit, `f` and a digit for the free class, `-`, or `K` for the Kronecker expansions.
+fn kind_of(n: usize, field: &[u8]) -> KindRead
+    ensures { λ r. ⌜ r ≡ kindOf n (now (field .entry)) ⌝ }
 {
     if same(field, b"-") {
-        return KindRead::Is(Kind::Mixed(Class::Block, 1));
+        return KindRead::Is(dash_kind(n));
     }
     if same(field, b"K") {
         return KindRead::Is(Kind::Kronecker);
@@ -43,9 +53,9 @@ fn kind_of(field: &[u8]) -> KindRead
     }
 }
 
-// n, m and the kind of k, where each is read, with the family.
-fn table_line(family: Family, n: Number, m: Number, kind: KindRead) -> FirstLine
-    ensures { λ r. ⌜ r ≡ tableLine family n m kind ⌝ }
+// n, m and the kind of k, which `field` says, where each is read, with the family.
+fn table_line(family: Family, n: Number, m: Number, field: &[u8]) -> FirstLine
+    ensures { λ r. ⌜ r ≡ tableLine family n m (now (field .entry)) ⌝ }
 {
     let Number::Is(n) = n else {
         return FirstLine::Wrong;
@@ -53,7 +63,7 @@ fn table_line(family: Family, n: Number, m: Number, kind: KindRead) -> FirstLine
     let Number::Is(m) = m else {
         return FirstLine::Wrong;
     };
-    let KindRead::Is(kind) = kind else {
+    let KindRead::Is(kind) = kind_of(n, field) else {
         return FirstLine::Wrong;
     };
     FirstLine::Table(Design { n, m, kind, family })
@@ -70,6 +80,6 @@ pub fn first_line(line: &[u8]) -> FirstLine
         family,
         one_digit(field(line, 1)),
         one_digit(field(line, 2)),
-        kind_of(field(line, 3)),
+        field(line, 3),
     )
 }

@@ -88,8 +88,8 @@ fn copy(rows: &[u16; PLACES], table: &mut [u8])
     }
 }
 
-// Reads a table text. It fills the lent table of 256 bytes, zero from 2^n on, and gives n, m, the kind of k, where `-` is 1, and the family. It
-// refuses a text by 1 to 6 with the line, and then a table of another length by 8 with line 0; under a refusal the table is as it was.
+// Reads a table text. It fills the lent table of 256 bytes, zero from 2^n on, and gives n, m, the kind of k, what `-` means in its place, and the
+// family. It refuses a text by 1 to 6 with the line, and then a table of another length by 8 with line 0; under a refusal the table is as it was.
 pub fn read_table(text: &[u8], table: &mut [u8]) -> ReadAnswer
     ensures { λ r. ⌜ ReadTable (now (text .entry)) (now (table .entry)) r (now (table .exit)) ⌝ }
 {

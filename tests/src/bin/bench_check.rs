@@ -70,8 +70,7 @@ fn outputs(field: &[u8], m: usize) -> Option<u8> {
 fn read_table(text: &[u8]) -> Option<Table> {
     let mut lines = lines(text)?;
     let [n, m, k] = fields(lines.next()?, b"table")?;
-    let k = if k == b"-" { 1 } else { number(k, 1)? };
-    let (n, m) = (number(n, 1)?, number(m, 1)?);
+    let (n, m, k) = (number(n, 1)?, number(m, 1)?, number(k, 1)?);
     if !(1..=8).contains(&n) || !(1..=8).contains(&m) || k > n.min(3) {
         return None;
     }

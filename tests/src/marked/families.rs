@@ -58,10 +58,10 @@ pub const ACCEPTED: [(&[u8], &[u8]); 19] = [
     (EXAMPLE_TWO, EXAMPLE_LISTING_TWO),
     (b"table2 2 2 1\nend\n", b"form2 2 2 1 1 0 0 0\ninv 00\nend\n"),
     (b"table2 2 1 0\nend\n", b"form2 2 1 0 0 0 0 0\ninv 0\nend\n"),
-    (b"table2 2 1 -\nend\n", b"form2 2 1 1 1 0 0 0\ninv 0\nend\n"),
+    (b"table2 2 1 1\nend\n", b"form2 2 1 1 1 0 0 0\ninv 0\nend\n"),
     (b"table2 2 1 2\nend\n", b"form2 2 1 2 3 0 0 0\ninv 0\nend\n"),
     // All one costs nothing.
-    (b"table2 1 1 -\non 0 1\non 1 1\nend\n", b"form2 1 1 1 1 0 0 0\ninv 1\nend\n"),
+    (b"table2 1 1 1\non 0 1\non 1 1\nend\n", b"form2 1 1 1 1 0 0 0\ninv 1\nend\n"),
     (
         b"table2 2 2 2\non 0 11\non 1 11\non 2 11\non 3 11\nend\n",
         b"form2 2 2 2 3 0 0 0\ninv 11\nend\n",

@@ -275,7 +275,7 @@ const UNDER_X3_F1: &[u8] = b"table 3 2 f1\non 5 10\non 6 01\non 7 10\nend\n";
 const UNDER_X3_F2: &[u8] = b"table 3 2 f2\non 5 10\non 6 01\non 7 10\nend\n";
 
 /// Pairs with an `f` field in the table text or in the listing.
-pub const PAIRS: [MarkedPair; 91] = [
+pub const PAIRS: [MarkedPair; 90] = [
     (EQUAL_F2, b"form 2 1 f2 3 0 2 2\ninv 0\nterm -1 1\nterm 0- 1\nend\n", SAME),
     // Cheap or not, and whichever of equal ones.
     (EQUAL_F2, b"form 2 1 f2 3 0 2 2\ninv 0\nterm -0 1\nterm 1- 1\nend\n", SAME),
@@ -344,8 +344,7 @@ pub const PAIRS: [MarkedPair; 91] = [
     (ZERO_F2, b"form 2 1 2 3 0 0 0\ninv 0\nend\n", refused(12, 1)),
     (b"table 2 1 0\nend\n", b"form 2 1 f0 0 0 0 0\ninv 0\nend\n", refused(12, 1)),
     (b"table 2 1 1\nend\n", b"form 2 1 f1 1 0 0 0\ninv 0\nend\n", refused(12, 1)),
-    (b"table 2 1 -\nend\n", b"form 2 1 f1 1 0 0 0\ninv 0\nend\n", refused(12, 1)),
-    (b"table 2 1 -\nend\n", b"form 2 1 f2 3 0 0 0\ninv 0\nend\n", refused(12, 1)),
+    (b"table 2 1 1\nend\n", b"form 2 1 f2 3 0 0 0\ninv 0\nend\n", refused(12, 1)),
     (b"table 2 1 2\nend\n", b"form 2 1 f2 3 0 0 0\ninv 0\nend\n", refused(12, 1)),
     (ZERO_F1, b"form 2 1 f0 0 0 0 0\ninv 0\nend\n", refused(12, 1)),
     (ZERO_F2, b"form 2 1 f1 1 0 0 0\ninv 0\nend\n", refused(12, 1)),

@@ -3,7 +3,7 @@
 //! space for each tab.
 
 use super::families::{EXAMPLE_LISTING_TWO, EXAMPLE_TWO};
-use super::{EXAMPLE, free};
+use super::{EXAMPLE, dash, free};
 use crate::calls::CheckAnswer;
 
 /// A table text, a listing, and the numbers of the answer.
@@ -46,8 +46,7 @@ pub const JUDGED: [MarkedPair; 49] = [
     ),
     (EXAMPLE, b"form 2 2 1 2 1 2 2\ninv 00\nterm -- 10\nterm 00 11\nend\n", SAME),
     (EXAMPLE, b"form 2 2 1 2 0 3 3\ninv 00\nterm -- 10\nterm 0- 11\nterm 01 11\nend\n", SAME),
-    // A `-` in the table text is k = 1.
-    (b"table 2 1 -\nend\n", b"form 2 1 1 1 0 0 0\ninv 0\nend\n", SAME),
+    (ZERO_1, b"form 2 1 1 1 0 0 0\ninv 0\nend\n", SAME),
     // Bits of i that no cube shows are free, and so is every M of k inputs.
     (ZERO_0, b"form 2 1 0 0 0 0 0\ninv 0\nend\n", SAME),
     (ZERO_0, b"form 2 1 0 0 3 0 0\ninv 0\nend\n", SAME),
@@ -400,7 +399,7 @@ pub const FAMILIES: [MarkedPair; 74] = [
         SAME,
     ),
     (EXAMPLE_TWO, b"form2 2 2 1 1 0 3 3\ninv 00\nterm -- 01\nterm -1 11\nterm 10 11\nend\n", SAME),
-    (b"table2 2 1 -\nend\n", b"form2 2 1 1 1 0 0 0\ninv 0\nend\n", SAME),
+    (b"table2 2 1 1\nend\n", b"form2 2 1 1 1 0 0 0\ninv 0\nend\n", SAME),
     // The class and the points are judged as in family one.
     (EXAMPLE_TWO, b"form2 2 2 1 1 0 2 2\ninv 00\nterm -- 10\nterm 00 11\nend\n", NOT_OF_CLASS),
     (EXAMPLE_TWO, b"form2 2 2 1 3 0 0 0\ninv 00\nend\n", NOT_OF_CLASS),
@@ -482,7 +481,8 @@ pub const FAMILIES: [MarkedPair; 74] = [
 pub fn all() -> impl Iterator<Item = MarkedPair> {
     let refused = REFUSED_LISTINGS.into_iter().chain(REFUSED_TABLES);
     let judged = JUDGED.into_iter().chain(INVERTERS);
-    judged.chain(refused).chain(KRONECKER).chain(FAMILIES).chain(free::PAIRS)
+    let classes = free::PAIRS.into_iter().chain(dash::PAIRS);
+    judged.chain(refused).chain(KRONECKER).chain(FAMILIES).chain(classes)
 }
 
 #[cfg(test)]

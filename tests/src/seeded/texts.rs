@@ -7,10 +7,10 @@ use crate::family::Family;
 use crate::text::Design;
 use std::ops::Range;
 
-/// A design of either family for either class, of at most this many inputs, and its text.
+/// A design of either family for either class or for `-`, of at most this many inputs, and its text.
 pub fn sound_text(seeded: &mut Seeded, most_inputs: usize) -> (Design, Vec<u8>) {
     let family = *seeded.pick(&Family::ALL);
-    let text = *seeded.pick(&[sound_text_of, free_text_of]);
+    let text = *seeded.pick(&[sound_text_of, free_text_of, dash_text_of]);
     text(seeded, family, most_inputs)
 }
 
@@ -28,8 +28,19 @@ pub fn sound_text_of(seeded: &mut Seeded, family: Family, most_inputs: usize) ->
     let n = seeded.within(1, most_inputs);
     let (m, k) = (seeded.within(1, 8), seeded.below(n.min(3) + 1));
     let design = Design::block(n, m, k, any_table(seeded, n, m)).of_family(family);
-    let dashed = k == 1 && seeded.once_in(2);
-    let text = if dashed { design.text_with("-") } else { design.text() };
+    if k == 1 {
+        // A draw that is not used: without it the stored cases, which are drawn after one another, would be others.
+        seeded.once_in(2);
+    }
+    let text = design.text();
+    (design, text)
+}
+
+/// The same of this family, with `-` for k.
+pub fn dash_text_of(seeded: &mut Seeded, family: Family, most_inputs: usize) -> (Design, Vec<u8>) {
+    let (n, m) = (seeded.within(1, most_inputs), seeded.within(1, 8));
+    let design = Design::dashed(n, m, any_table(seeded, n, m)).of_family(family);
+    let text = design.text_with("-");
     (design, text)
 }
 
@@ -72,6 +83,15 @@ pub fn with_f_somewhere(seeded: &mut Seeded, text: &[u8]) -> Vec<u8> {
     with_letter(seeded, text, b'f', &F_FIELDS)
 }
 
+/// Fields with a `-` in them, or nearly so.
+pub const DASH_FIELDS: [&str; 14] =
+    ["-", "--", "-1", "1-", "-2", "f-", "-f2", "f2-", "- ", " -", "-\t", "\t-", "_", "."];
+
+/// A text with one of `DASH_FIELDS` in a field, or with a byte changed into `-`.
+pub fn with_dash_somewhere(seeded: &mut Seeded, text: &[u8]) -> Vec<u8> {
+    with_letter(seeded, text, b'-', &DASH_FIELDS)
+}
+
 /// A text with one of these fields in a field, or with a byte changed into this letter.
 fn with_letter(
     seeded: &mut Seeded,
@@ -89,14 +109,26 @@ fn with_letter(
     changed
 }
 
-/// A text or listing with one of `F_FIELDS` for its k field, the fourth of its first line, in half of the draws one of
-/// the free class.
+/// A text or listing with one of `F_FIELDS` for its k field, in half of the draws one of the free class.
 pub fn with_other_k(seeded: &mut Seeded, text: &[u8]) -> Vec<u8> {
+    let others = if seeded.once_in(2) { &F_FIELDS[..3] } else { &F_FIELDS[..] };
+    let k = *seeded.pick(others);
+    with_k(text, k)
+}
+
+/// A text or listing with one of `DASH_FIELDS` for its k field, in half of the draws `-`.
+pub fn with_dash_for_k(seeded: &mut Seeded, text: &[u8]) -> Vec<u8> {
+    let others = if seeded.once_in(2) { &DASH_FIELDS[..1] } else { &DASH_FIELDS[..] };
+    let k = *seeded.pick(others);
+    with_k(text, k)
+}
+
+/// A text or listing with this k field, the fourth of its first line.
+fn with_k(text: &[u8], k: &str) -> Vec<u8> {
     let end = text.iter().position(|&byte| byte == b'\n').unwrap_or(text.len());
     let (first, rest) = text.split_at(end);
     let mut fields: Vec<&[u8]> = first.split(|&byte| byte == b'\t').collect();
-    let others = if seeded.once_in(2) { &F_FIELDS[..3] } else { &F_FIELDS[..] };
-    fields[3] = seeded.pick(others).as_bytes();
+    fields[3] = k.as_bytes();
     [&fields.join(&b"\t"[..]), rest].concat()
 }
 

@@ -4,10 +4,10 @@ use mathlib.Core.List.{List, [], _∷_}
 use mathlib.Core.Path.{_≡_, refl, sym, ap, subst, _∙_}
 use Prim.Native.Nat.{ℕ, zero, suc}
 use native.Mathlib.Omega.{arith}
-use lib.ListN.{length, replicate}
+use lib.ListN.{length}
 use Rattle.listings.specs.Parts.{parts}
 use Rattle.lines.specs.Rows as later
-use Rattle.lines.specs.Rows.{RowsRead, rows, tableGrammar, rowLine, laterLines}
+use Rattle.lines.specs.Rows.{RowsRead, rows}
 use Rattle.table_texts.specs.declared.first.FirstLine.the-variants as first
 use Rattle.table_texts.specs.declared.first.FirstLine.{FirstLine}
 use Rattle.table_texts.specs.declared.read.ReadAnswer.the-variants as answer
@@ -16,7 +16,7 @@ use Rattle.table_texts.specs.declared.sizes.Design.{Design}
 use Rattle.table_texts.specs.Design.{designRefusal, DesignSized}
 use Rattle.table_texts.specs.First.{firstLine}
 use Rattle.table_texts.specs.Accepted.{Accepted}
-use Rattle.table_texts.specs.Read.{Reading, given, refused, withDesign, designJudged, judgedFirst, opened, allLines, reading, lent, standsFor, ReadTable}
+use Rattle.table_texts.specs.Read.{Reading, given, refused, withDesign, designJudged, judgedFirst, opened, fromSecond, allLines, reading, lent, standsFor, ReadTable}
 use Rattle.table_texts.proofs.Design.{design-none}
 use Rattle.table_texts.proofs.Points.{points-read}
 
@@ -52,7 +52,7 @@ unfolding allLines
 all-accepted l [] d t e = absurd (no-refusal e)
 all-accepted l (l′ ∷ ls) d t e = judged (judgedFirst (firstLine l)) refl e where
   judged : (x : ReadAnswer) → judgedFirst (firstLine l) ≡ x
-      → opened x (λ y. withDesign y (laterLines (rowLine (tableGrammar (y .n) (y .m))) (y .n) 2 0 (replicate 256 0) l′ ls)) ≡ given d t → Accepted d t
+      → opened x (fromSecond l′ ls) ≡ given d t → Accepted d t
   judged (answer.Given y) says f =
       let sized = first-sized (firstLine l) y says in
       let found = with-given y d _ t f in

@@ -4,14 +4,14 @@ use mathlib.Core.Path.{_≡_}
 use Prim.Native.Nat.{ℕ, _+_, _<_, _≤_}
 use native.Mathlib.Nat.{zero-add}
 use native.Mathlib.Omega.{arith}
-use lib.ListN.{length, take, drop, replicate}
+use lib.ListN.{length, take, drop}
 use Rattle.listings.specs.Parts.{parts}
 use Rattle.listings.specs.inner.Stops.{stop}
 use Rattle.listings.proofs.Parts.{first-take, others-last, others-next}
-use Rattle.lines.specs.Rows.{tableGrammar, rowLine, unfinished, laterLines}
+use Rattle.lines.specs.Rows.{unfinished}
 use Rattle.table_texts.specs.declared.sizes.Design.{Design}
 use Rattle.table_texts.specs.First.{firstLine}
-use Rattle.table_texts.specs.Read.{Reading, refused, withDesign, judgedFirst, opened, allLines, reading}
+use Rattle.table_texts.specs.Read.{Reading, refused, judgedFirst, opened, fromSecond, allLines, reading}
 
 module _ (s : List ℕ) (to : ℕ) (e : to ≡ stop 10 s 0) where
   first-part : take to s ≡ parts 10 s .first
@@ -23,8 +23,7 @@ module _ (s : List ℕ) (to : ℕ) (e : to ≡ stop 10 s 0) where
 
   -- what follows a first line that gives a design
   abbrev pub linesAfter : Design → Reading
-  linesAfter d =
-      withDesign d (laterLines (rowLine (tableGrammar (d .n) (d .m))) (d .n) 2 0 (replicate 256 0) (parts 10 (drop (to + 1) s) .first) (parts 10 (drop (to + 1) s) .others))
+  linesAfter = fromSecond (parts 10 (drop (to + 1) s) .first) (parts 10 (drop (to + 1) s) .others)
 
   pub text-judged : to < length s → reading s ≡ opened (judgedFirst (firstLine (take to s))) linesAfter
   unfolding reading allLines

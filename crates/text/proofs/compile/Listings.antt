@@ -54,7 +54,7 @@ answer-listing d table a = go (d .family) (d .kind) (a .sized .mixed) (a .sized 
 -- ---- the text call
 
 -- where the text is accepted: what it wrote is the listing, and it stands at the front of the buffer
-written-listing : (z : Design) (table before after : List ℕ) (written : ℕ) → Written written ≡ compiled (given z table) (length before)
+pub written-listing : (z : Design) (table before after : List ℕ) (written : ℕ) → Written written ≡ compiled (given z table) (length before)
     → after ≡ bufferAfter (given z table) before → take written after ≡ answerListing z table
 unfolding compiled bufferAfter
 written-listing z table before after written ew ea = go (leb (length (answerListing z table)) (length before)) ew ea

@@ -40,9 +40,6 @@ one-digit-requires-2 c κs = search needs
 field-requires-3 : tie.Need-field-requires-3
 field-requires-3 c κs = search needs
 
-kind-of-requires : tie.Need-kind-of-requires
-kind-of-requires c κs = search needs
-
 table-line-requires : tie.Need-table-line-requires
 table-line-requires c κs = search needs
 
@@ -50,7 +47,7 @@ returns-2 : tie.Need-returns-2
 unfolding firstLine tableWord bytes
 returns-2 c =
     let kind = c .before in
-    let m = kind .before .before in
+    let m = kind .before in
     let n = m .before .before in
     let told = n .before .before .before in
     c .table-line .ensures
@@ -61,8 +58,7 @@ returns-2 c =
       ← n .one-digit .ensures,
       ← m .before .field2 .ensures,
       ← m .one-digit2 .ensures,
-      ← kind .before .field3 .ensures,
-      ← kind .kind-of .ensures,
+      ← kind .field3 .ensures,
     )
 
 pub first-line-spec : {M : Type 1} → statement M
@@ -80,6 +76,5 @@ first-line-spec =
     field-requires-2
     one-digit-requires-2
     field-requires-3
-    kind-of-requires
     table-line-requires
     returns-2)

@@ -1,4 +1,4 @@
--- `kind_of` meets its contract, by those of `same` and `mixed_of`.
+-- `kind_of` meets its contract, by those of `same`, `dash_kind` and `mixed_of`.
 use borrow.Author.Needs.{needs}
 use Rattle.listings.specs.Parts.{bytes}
 use Rattle.table_texts.specs.First.{kindOf}
@@ -11,9 +11,12 @@ slice-aggregate-same c = search needs
 same-requires : tie.Need-same-requires
 same-requires c κs = search needs
 
+dash-kind-requires : tie.Need-dash-kind-requires
+dash-kind-requires c κs = search needs
+
 returns : tie.Need-returns
 unfolding kindOf bytes
-returns c = rw (← c .before .same .ensures, c .if1 .taken)
+returns c = rw (← c .before .before .same .ensures, c .before .if1 .taken, ← c .dash-kind .ensures)
 
 slice-aggregate-same-2 : tie.Need-slice-aggregate-same-2
 slice-aggregate-same-2 c = search needs
@@ -72,6 +75,7 @@ kind-of-spec =
     (tie.spec
     slice-aggregate-same
     same-requires
+    dash-kind-requires
     returns
     slice-aggregate-same-2
     same-requires-2

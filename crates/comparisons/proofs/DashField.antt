@@ -1,0 +1,57 @@
+-- W-208 of texts and their listings (`dash-field`). A text is compiled by what it means, and that is the same with `-` and with the field that `-` means;
+-- the listing of a class has the characters of its field k on its first line.
+use mathlib.Core.List.{List}
+use mathlib.Core.Path.{_≡_, refl, sym, ap, _∙_}
+use Prim.Native.Nat.{ℕ, _<_}
+use native.Mathlib.Omega.{arith}
+use lib.ListN.{length, take}
+use Rattle.listings.specs.Parts.{bytes}
+use Rattle.listings.proofs.Forms.{listing-field}
+use Rattle.table_texts.specs.declared.sizes.Design.{Design}
+use Rattle.table_texts.specs.First.{dashKind}
+use Rattle.table_texts.specs.Read.{Reading, given, refused, reading}
+use Rattle.table_texts.specs.TableTexts.{kindField, designLine}
+use Rattle.table_texts.proofs.Acceptance.{dash-written-out}
+use Rattle.table_texts.proofs.DesignLine.{kind-dash}
+use Rattle.table_texts.proofs.Exactness.{first-given}
+use Rattle.text.specs.declared.compile.Compiled.the-variants.{Written}
+use Rattle.text.specs.Compile.{answerListing, compiled, bufferAfter, Compile}
+use Rattle.text.proofs.compile.Listings.{written-listing}
+use Rattle.comparisons.specs.DashField.{dashed, shownField, DashField}
+
+module _ (d : Design) (rest : List ℕ) (hn : d .n < 10) (hm : d .m < 10) where
+  -- the design that the first line says
+  abbrev meant : Design
+  meant = record { n = d .n; m = d .m; kind = dashKind (d .n); family = d .family }
+
+  meant-field : (t : List ℕ) → shownField (answerListing meant t) ≡ kindField (dashKind (d .n))
+  unfolding answerListing dashKind kindField
+  meant-field t = listing-field _ (d .family) (d .n) (d .m) _ _
+
+  dash-shown : (before after : List ℕ) (count : ℕ) → Compile (dashed d rest) before after (Written count)
+      → shownField (take count after) ≡ kindField (dashKind (d .n))
+  unfolding compiled designLine
+  dash-shown before after count h = go (reading (dashed d rest)) refl where
+    go : (x : Reading) → reading (dashed d rest) ≡ x → shownField (take count after) ≡ kindField (dashKind (d .n))
+    go (given y t) e =
+        let same : meant ≡ y = first-given (bytes "-") meant rest y t hn hm (kind-dash (d .n)) e in
+        let listed : take count after ≡ answerListing y t =
+        written-listing y t before after count (h .answer ∙ ap (λ (x : Reading). compiled x (length before)) e)
+        (h .bytes ∙ ap (λ (x : Reading). bufferAfter x before) e) in
+        ap shownField (listed ∙ ap (λ (z : Design). answerListing z t) (sym same)) ∙ meant-field t
+    go (refused number line) e =
+        let none = h .answer ∙ ap (λ (x : Reading). compiled x (length before)) e in
+        let z : _≡_ {A = ℕ} 0 1 = cc in absurd (omega arith)
+
+  pub dash-field : DashField d rest
+  dash-field =
+      let read = dash-written-out d rest hn hm in
+      record {
+        read = read;
+        written = λ before after after′ r r′ a b. (
+          a .answer ∙ ap (λ (x : Reading). compiled x (length before)) read ∙ sym (b .answer),
+          a .bytes ∙ ap (λ (x : Reading). bufferAfter x before) read ∙ sym (b .bytes),
+        );
+        printed = λ y t e held held′ count count′ a b. a .whole y t e ∙ sym (b .whole y t (sym read ∙ e));
+        shown = dash-shown;
+      }
