@@ -1,6 +1,6 @@
 -- The first line of a table text. It is read as the design that it was written for (`design-said`), and a line that says a design is the line that
--- is written for it, with the characters of its kind of k, or where this is what `-` means with `-` (`design-read`, `kind-read`). With `table2` and `K` it
--- is refused by 1 (`kronecker-two`).
+-- is written for it, with the characters of its kind of k, or where this is what `-` means with `-` (`design-read`, `kind-read`). What `-` means is `f1` or
+-- `f2` (`dash-characters`). With `table2` and `K` a line is refused by 1 (`kronecker-two`).
 use mathlib.Core.Bool.{Bool, true, false, cond}
 use mathlib.Core.List.{List, [], _∷_, _++_}
 use mathlib.Core.Logic.{_⊎_, inl, inr}
@@ -16,7 +16,7 @@ use Rattle.expansions.specs.declared.kinds.Kind.{Kind}
 use Rattle.expansions.specs.declared.kinds.Kind.the-variants.{Mixed, Kronecker}
 use Rattle.expansions.proofs.Classes.{most-three}
 use Rattle.listings.specs.Parts.{parts, bytes, same, fields, field}
-use Rattle.listings.specs.Listing.{tabbed, decimal, mixedField}
+use Rattle.listings.specs.Listing.{tabbed, descending, digitCount, decimal, mixedMark, mixedField}
 use Rattle.listings.proofs.Joined.{Plain, AllPlain, parts-fields}
 use Rattle.listings.proofs.Meaning.{plain-decimal}
 use Rattle.listings.proofs.Forms.{plain-mixedField}
@@ -81,6 +81,14 @@ dash-said n = go (eqb n 1) where
   go : (t : Bool) → kindOf n (mixedField Free (cond t 1 2)) ≡ kind.Is (Mixed Free (cond t 1 2))
   go true = kind-mixed n Free 1 (lit< tt)
   go false = kind-mixed n Free 2 (lit< tt)
+
+-- "`f2`, or `f1` where n = 1", in characters
+pub dash-characters : (n : ℕ) → kindField (dashKind n) ≡ cond (eqb n 1) (bytes "f1") (bytes "f2")
+unfolding kindField dashKind mixedField mixedMark decimal descending digitCount bytes
+dash-characters n = go (eqb n 1) where
+  go : (t : Bool) → mixedField Free (cond t 1 2) ≡ cond t (bytes "f1") (bytes "f2")
+  go true = refl
+  go false = refl
 
 wrong-kind : {x : Kind} → kind.Wrong ≡ kind.Is x → ⊥
 wrong-kind e = let z : _≡_ {A = ℕ} 0 1 = cc in omega arith
