@@ -1,10 +1,21 @@
 -- W-208 of texts and their listings (`dash-field`). A text is compiled by what it means, and that is the same with `-` and with the field that `-` means;
--- the listing of a class has the characters of its field k on its first line.
+-- the listing of a class has the characters of its field k on its first line. A table costs no more with what `-` means now than with `1`, which it meant
+-- before (`dash-no-dearer`).
+use mathlib.Core.Bool.{Bool, true, false, cond}
 use mathlib.Core.List.{List}
 use mathlib.Core.Path.{_≡_, refl, sym, ap, _∙_}
-use Prim.Native.Nat.{ℕ, _<_}
+use Prim.Native.Nat.{ℕ, _≤_, _<_}
 use native.Mathlib.Omega.{arith}
+use borrow.Author.Tests.{eqb-false}
+use lib.Dec.{eqb}
 use lib.ListN.{length, take}
+use Rattle.expansions.specs.declared.families.Family.{Family}
+use Rattle.expansions.specs.declared.kinds.Class.the-variants.{Block, Free}
+use Rattle.expansions.specs.declared.kinds.Kind.the-variants.{Mixed}
+use Rattle.expansions.specs.Rules.{NoDearer}
+use Rattle.expansions.specs.Rivals.{Rival, LeastCost}
+use Rattle.expansions.proofs.Alike.{rival-free}
+use Rattle.expansions.proofs.Wider.{rival-wider}
 use Rattle.listings.specs.Parts.{bytes}
 use Rattle.listings.proofs.Forms.{listing-field}
 use Rattle.table_texts.specs.declared.sizes.Design.{Design}
@@ -55,3 +66,20 @@ module _ (d : Design) (rest : List ℕ) (hn : d .n < 10) (hm : d .m < 10) where
         printed = λ y t e held held′ count count′ a b. a .whole y t e ∙ sym (b .whole y t (sym read ∙ e));
         shown = dash-shown;
       }
+
+-- ---- beside `1`
+
+-- what costs so much at `1` costs so much at what `-` means
+dash-rival : (n : ℕ) (f : ℕ → ℕ) (p l : ℕ) → 1 ≤ n → Rival n f (Mixed Block 1) p l → Rival n f (dashKind n) p l
+unfolding dashKind
+dash-rival n f p l some r = go (eqb n 1) refl where
+  free : Rival n f (Mixed Free 1) p l
+  free = rival-free n 1 f p l r
+
+  go : (t : Bool) → eqb n 1 ≡ t → Rival n f (Mixed Free (cond t 1 2)) p l
+  go true e = free
+  go false e = let more : n ≡ 1 → ⊥ = eqb-false n 1 e in rival-wider n 1 f p l (omega (arith, more)) free
+
+pub dash-no-dearer : (n : ℕ) (family : Family) (f : ℕ → ℕ) (p l p′ l′ : ℕ) → 1 ≤ n → LeastCost n family (dashKind n) f p l
+    → LeastCost n family (Mixed Block 1) f p′ l′ → NoDearer family p l p′ l′
+dash-no-dearer n family f p l p′ l′ some dash one = dash .cheapest p′ l′ (dash-rival n f p′ l′ some (one .reached))

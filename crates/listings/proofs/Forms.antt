@@ -24,7 +24,7 @@ use Rattle.expansions.specs.Costs.{counted, products, literals}
 use Rattle.expansions.specs.Members.{polarity}
 use Rattle.search.specs.declared.expansion.Expansion.{Expansion}
 use Rattle.expansions.proofs.Costs.{products-le}
-use Rattle.listings.specs.Parts.{Parts, parts, bytes, same, fields, field}
+use Rattle.listings.specs.Parts.{parts, bytes, same, fields, field}
 use Rattle.listings.specs.Listing.{tabbed, line, cube, outputBytes, mixedMark, mixedField, formFields, fieldsOf, formWord, formLine, invLine, cubeLines, printedCubes, listingWith, listing}
 use Rattle.listings.specs.inner.Listable.{Listable}
 use Rattle.listings.specs.Meaning.{outputsSaid, listingInverted, listingValue, listingProducts, listingLiterals, listingCubes, numberSaid, firstNumbers, statedProducts, statedLiterals}
@@ -91,15 +91,15 @@ module _ (family : Family) (fs : List (List ℕ)) (plain : AllPlain fs) (v n m :
       cubes-literals _ _ _ (form-heading family fs m v plain) n m x c (λ t. plain-cube n t (w t))
       ∙ fold-ext _+_ (2 ^ n) _ _ (λ t l. ap (λ (x : ℕ). counted (c t) x) (cube-literals n t _ l))
 
-  -- the first line, without its end
-  listing-first : parts 10 (listingWith family fs v n m w c) .first ≡ formWord family ++ tabbed fs
+  -- the fields of the first line
+  listing-fields : parts 9 (parts 10 (listingWith family fs v n m w c) .first) ≡ record { first = formWord family; others = fs }
   unfolding listingWith formLine
-  listing-first =
+  listing-fields =
       let terms : List ℕ = cubeLines m (λ t. cube n t (w t)) c (2 ^ n) in
       let last : List ℕ = line (bytes "end") [] in
-      ap (λ (s : List ℕ). parts 10 s .first)
+      ap (λ (s : List ℕ). parts 9 (parts 10 s .first))
       (append-assoc (formLine family fs ++ invLine m v) terms last ∙ append-assoc (formLine family fs) (invLine m v) (terms ++ last))
-      ∙ ap (λ (p : Parts). p .first) (parts-lines (formWord family) fs (invLine m v ++ (terms ++ last)) (plain-form family) plain)
+      ∙ rw (parts-lines (formWord family) fs (invLine m v ++ (terms ++ last)) (plain-form family) plain) (parts-fields (formWord family) fs (plain-form family) plain)
 
 -- ---- the first line
 
@@ -118,8 +118,8 @@ pub listing-numbers : (family : Family) (C : Class) (n m k M i p l v : ℕ) (w c
 unfolding firstNumbers
 listing-numbers family C n m k M i p l v w c (hn, (hm, small)) =
     let fs : List (List ℕ) = formFields C n m k M i p l in
-    let plain = plain-fields C n m k M i p l in
-    rw (listing-first family fs plain v n m w c, parts-fields (formWord family) fs (plain-form family) plain, decimal-said n hn, decimal-said m hm) (ap (λ (xs : List ℕ). n ∷ m ∷ numberSaid 0 (mixedField C k) ∷ xs) (numbers-said (M ∷ i ∷ p ∷ l ∷ []) small))
+    rw (listing-fields family fs (plain-fields C n m k M i p l) v n m w c, decimal-said n hn, decimal-said m hm)
+    (ap (λ (xs : List ℕ). n ∷ m ∷ numberSaid 0 (mixedField C k) ∷ xs) (numbers-said (M ∷ i ∷ p ∷ l ∷ []) small))
 
 -- the field k on the first line of the listing of a class
 pub listing-field : (C : Class) (family : Family) (n m k : ℕ) (e : Expansion) → field 3 (parts 10 (listing C family n m k e) .first) ≡ mixedField C k
@@ -127,10 +127,7 @@ unfolding listing fields
 listing-field C family n m k e =
     let fs : List (List ℕ) = fieldsOf C n m k e in
     let plain = plain-fields C n m k (e .mixed) (e .fixed) (e .products) (e .literals) in
-    rw (
-      listing-first family fs plain (e .inverted) n m (polarity C n k (e .mixed) (e .fixed) (at (e .blocks))) (at (e .coefficients)),
-      parts-fields (formWord family) fs (plain-form family) plain,
-    )
+    rw (listing-fields family fs plain (e .inverted) n m (polarity C n k (e .mixed) (e .fixed) (at (e .blocks))) (at (e .coefficients)))
 
 module _ (C : Class) (family : Family) (n m k : ℕ) (e : Expansion) (f : Listable n m e) (few : e .literals < 10000) where
   small-numbers : Small (n ∷ m ∷ e .mixed ∷ e .fixed ∷ e .products ∷ e .literals ∷ [])
