@@ -79,7 +79,7 @@ enum mipaldoz_answer {
 enum mipaldoz_kind {
     MIPALDOZ_KIND_BLOCK = 1,     /* a number of mixed inputs: the text has a digit */
     MIPALDOZ_KIND_KRONECKER = 2, /* the text has `K`: Kronecker expansions */
-    MIPALDOZ_KIND_FREE = 3       /* a number of mixed inputs of the free class: the text has `f0`, `f1` or `f2` */
+    MIPALDOZ_KIND_FREE = 3       /* a number of mixed inputs of the free class: the text has `f0`, `f1`, `f2` or `-` */
 };
 
 /* The families of parts. */
