@@ -48,10 +48,17 @@ fn text_of(n: usize, m: usize, k: usize, table: Vec<u8>) -> Vec<u8> {
 
 /// The texts whose answers are written down by hand.
 fn marked_texts() -> Vec<Vec<u8>> {
-    let accepted = ACCEPTED.iter().map(|(text, _)| bytes(text));
-    let refused = REFUSED.iter().map(|(text, _, _)| bytes(text));
     let design = |&Marked { n, m, k, table, .. }: &Marked| text_of(n, m, k, table.to_vec());
-    accepted.chain(refused).chain(DESIGNS.iter().map(design)).collect()
+    [accepted_and_refused(&ACCEPTED, &REFUSED), DESIGNS.iter().map(design).collect()].concat()
+}
+
+/// Marked texts that are accepted, and then those that are refused.
+fn accepted_and_refused(
+    accepted: &[(&[u8], &[u8])],
+    refused: &[(&[u8], u64, u64)],
+) -> Vec<Vec<u8>> {
+    let accepted = accepted.iter().map(|(text, _)| bytes(text));
+    accepted.chain(refused.iter().map(|(text, _, _)| bytes(text))).collect()
 }
 
 /// A text for every n, m and k. One design of eight inputs is drawn at every bit.
@@ -78,9 +85,7 @@ fn damaged_texts(seeded: &mut Seeded) -> Vec<Vec<u8>> {
 
 /// Texts with `K`: the marked ones, the longest listing, one for every n and m, and damaged ones.
 fn kronecker_texts(seeded: &mut Seeded) -> Vec<Vec<u8>> {
-    let accepted = kronecker::ACCEPTED.iter().map(|(text, _)| bytes(text));
-    let refused = kronecker::REFUSED.iter().map(|(text, _, _)| bytes(text));
-    let mut texts: Vec<Vec<u8>> = accepted.chain(refused).collect();
+    let mut texts = accepted_and_refused(&kronecker::ACCEPTED, &kronecker::REFUSED);
     texts.push(Design::kronecker(8, 8, longest_listing_table()).text());
     for n in 1..=8 {
         for m in 1..=8 {
@@ -99,9 +104,7 @@ fn kronecker_texts(seeded: &mut Seeded) -> Vec<Vec<u8>> {
 /// Texts of family two: the marked ones, the designs on which the families or their ties choose differently in
 /// both families, the longest listing, one for every n and k, and damaged ones.
 fn family_texts(seeded: &mut Seeded) -> Vec<Vec<u8>> {
-    let accepted = families::ACCEPTED.iter().map(|(text, _)| bytes(text));
-    let refused = families::REFUSED.iter().map(|(text, _, _)| bytes(text));
-    let mut texts: Vec<Vec<u8>> = accepted.chain(refused).collect();
+    let mut texts = accepted_and_refused(&families::ACCEPTED, &families::REFUSED);
     for Compared { n, k, table, .. } in COMPARED {
         let design = Design::block(n, OUTPUTS, k, table.to_vec());
         texts.extend(Family::ALL.map(|family| design.clone().of_family(family).text()));
@@ -129,9 +132,7 @@ fn family_texts(seeded: &mut Seeded) -> Vec<Vec<u8>> {
 /// Texts of the free class: the marked ones, the designs on which the classes differ, the longest listings, one for
 /// every n and `f` field in each family, and damaged ones.
 fn free_texts(seeded: &mut Seeded) -> Vec<Vec<u8>> {
-    let accepted = free::ACCEPTED.iter().map(|(text, _)| bytes(text));
-    let refused = free::REFUSED.iter().map(|(text, _, _)| bytes(text));
-    let mut texts: Vec<Vec<u8>> = accepted.chain(refused).collect();
+    let mut texts = accepted_and_refused(&free::ACCEPTED, &free::REFUSED);
     let mut push = |n, m, class, family, table| {
         texts.push(Design::of_class(n, m, class, table).of_family(family).text());
     };
@@ -162,9 +163,7 @@ fn free_texts(seeded: &mut Seeded) -> Vec<Vec<u8>> {
 /// Texts with `-`: the marked ones, the designs on which the classes differ, the longest listings, texts for every n in
 /// each family, and damaged ones.
 fn dash_texts(seeded: &mut Seeded) -> Vec<Vec<u8>> {
-    let accepted = dash::ACCEPTED.iter().map(|(text, _)| bytes(text));
-    let refused = dash::REFUSED.iter().map(|(text, _, _)| bytes(text));
-    let mut texts: Vec<Vec<u8>> = accepted.chain(refused).collect();
+    let mut texts = accepted_and_refused(&dash::ACCEPTED, &dash::REFUSED);
     let mut push = |n, m, family, table| {
         texts.push(Design::dashed(n, m, table).of_family(family).text_with("-"));
     };

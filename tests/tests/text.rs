@@ -548,17 +548,30 @@ fn damaged_family_texts() {
     }
 }
 
-/// The free class of either family with damage, with an `f` somewhere, and with other k fields.
-#[test]
-fn damaged_free_texts() {
-    let mut seeded = Seeded::new(67);
+/// Texts of either family with damage, with a letter somewhere, and with other k fields and first words.
+fn check_damaged(
+    seed: u64,
+    text_of: fn(&mut Seeded, Family, usize) -> (Design, Vec<u8>),
+    with_letter: fn(&mut Seeded, &[u8]) -> Vec<u8>,
+) {
+    let mut seeded = Seeded::new(seed);
     for round in 0..4000 {
         let (family, most) = (Family::ALL[round % 2], if round % 50 == 0 { 6 } else { 3 });
-        let (_, text) = free_text_of(&mut seeded, family, most);
-        let damage = [damaged_text, with_f_somewhere, with_other_k, with_other_word][round % 4];
+        let (_, text) = text_of(&mut seeded, family, most);
+        let damage = [damaged_text, with_letter, with_other_k, with_other_word][round % 4];
         let damaged = damage(&mut seeded, &text);
         check_text(&mut seeded, &damaged);
     }
+}
+
+#[test]
+fn damaged_free_texts() {
+    check_damaged(67, free_text_of, with_f_somewhere);
+}
+
+#[test]
+fn damaged_dashed_texts() {
+    check_damaged(93, dash_text_of, with_dash_somewhere);
 }
 
 /// Every table of at most two inputs and two outputs with every `f` field, in both families.
@@ -620,18 +633,5 @@ fn dashed_texts_of_every_size() {
                 check_dash(&mut seeded, &design.clone().of_family(family));
             }
         }
-    }
-}
-
-/// Texts with `-` of either family with damage, with a `-` somewhere, and with other k fields.
-#[test]
-fn damaged_dashed_texts() {
-    let mut seeded = Seeded::new(93);
-    for round in 0..4000 {
-        let (family, most) = (Family::ALL[round % 2], if round % 50 == 0 { 6 } else { 3 });
-        let (_, text) = dash_text_of(&mut seeded, family, most);
-        let damage = [damaged_text, with_dash_somewhere, with_other_k, with_other_word][round % 4];
-        let damaged = damage(&mut seeded, &text);
-        check_text(&mut seeded, &damaged);
     }
 }

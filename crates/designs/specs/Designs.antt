@@ -206,12 +206,12 @@ abbrev pub printedListing : String
 printedListing = "form\t2\t2\t1\t1\t2\t1\t2\ninv\t10\nterm\t00\t11\nend\n"
 
 -- the same text with `-` for k
-abbrev pub dashText : String
-dashText = "table\t2\t2\t-\non\t0\t01\non\t1\t10\non\t2\t10\non\t3\t10\nend\n"
+abbrev pub printedTextDash : String
+printedTextDash = "table\t2\t2\t-\non\t0\t01\non\t1\t10\non\t2\t10\non\t3\t10\nend\n"
 
 -- its listing: both inputs are mixed
-abbrev pub dashListing : String
-dashListing = "form\t2\t2\tf2\t3\t0\t1\t2\ninv\t10\nterm\t00\t11\nend\n"
+abbrev pub printedListingDash : String
+printedListingDash = "form\t2\t2\tf2\t3\t0\t1\t2\ninv\t10\nterm\t00\t11\nend\n"
 
 -- the text with `1` for a part of family two
 abbrev pub printedText2 : String
@@ -521,7 +521,7 @@ freeDesigns =
     -- "A listing shows the k that was used.": n = 1 with only point 0 on, and the printed example, byte for byte
     ∷ states (printedOf "table\t1\t1\t-\non\t0\t1\nend\n") (bytes "form\t1\t1\tf1\t1\t0\t1\t1\ninv\t0\nterm\t0\t1\nend\n")
     ∷ states (printedOf "table2\t1\t1\t-\non\t0\t1\nend\n") (bytes "form2\t1\t1\tf1\t1\t0\t1\t1\ninv\t0\nterm\t0\t1\nend\n")
-    ∷ states (printedOf dashText) (bytes dashListing)
+    ∷ states (printedOf printedTextDash) (bytes printedListingDash)
     -- the order of line 1 is the same, and 4 cannot apply; `--` is no field
     ∷ states (meaningOf "table\t0\t9\t-\nend\n") (refusal 2 1)
     ∷ states (meaningOf "table\t1\t9\t-\nend\n") (refusal 3 1)
