@@ -17,27 +17,24 @@ use Rattle.expansions.specs.Rivals.{Rival, LeastCost}
 use Rattle.expansions.proofs.Alike.{rival-free}
 use Rattle.expansions.proofs.Wider.{rival-wider}
 use Rattle.listings.specs.Parts.{bytes}
+use Rattle.listings.specs.Meaning.{shownField}
 use Rattle.listings.proofs.Forms.{listing-field}
 use Rattle.table_texts.specs.declared.sizes.Design.{Design}
 use Rattle.table_texts.specs.First.{dashKind}
 use Rattle.table_texts.specs.Read.{Reading, given, refused, reading}
-use Rattle.table_texts.specs.TableTexts.{kindField, designLine}
+use Rattle.table_texts.specs.TableTexts.{kindField, designLine, dashDesign}
 use Rattle.table_texts.proofs.Acceptance.{dash-written-out}
 use Rattle.table_texts.proofs.DesignLine.{kind-dash}
 use Rattle.table_texts.proofs.Exactness.{first-given}
 use Rattle.text.specs.declared.compile.Compiled.the-variants.{Written}
 use Rattle.text.specs.Compile.{answerListing, compiled, bufferAfter, Compile}
 use Rattle.text.proofs.compile.Listings.{written-listing}
-use Rattle.comparisons.specs.DashField.{dashed, shownField, DashField}
+use Rattle.comparisons.specs.DashField.{dashed, DashField}
 
 module _ (d : Design) (rest : List ℕ) (hn : d .n < 10) (hm : d .m < 10) where
-  -- the design that the first line says
-  abbrev meant : Design
-  meant = record { n = d .n; m = d .m; kind = dashKind (d .n); family = d .family }
-
-  meant-field : (t : List ℕ) → shownField (answerListing meant t) ≡ kindField (dashKind (d .n))
+  answer-field : (t : List ℕ) → shownField (answerListing (dashDesign d) t) ≡ kindField (dashKind (d .n))
   unfolding answerListing dashKind kindField
-  meant-field t = listing-field _ (d .family) (d .n) (d .m) _ _
+  answer-field t = listing-field _ (d .family) (d .n) (d .m) _ _
 
   dash-shown : (before after : List ℕ) (count : ℕ) → Compile (dashed d rest) before after (Written count)
       → shownField (take count after) ≡ kindField (dashKind (d .n))
@@ -45,11 +42,11 @@ module _ (d : Design) (rest : List ℕ) (hn : d .n < 10) (hm : d .m < 10) where
   dash-shown before after count h = go (reading (dashed d rest)) refl where
     go : (x : Reading) → reading (dashed d rest) ≡ x → shownField (take count after) ≡ kindField (dashKind (d .n))
     go (given y t) e =
-        let same : meant ≡ y = first-given (bytes "-") meant rest y t hn hm (kind-dash (d .n)) e in
+        let same : dashDesign d ≡ y = first-given (bytes "-") (dashDesign d) rest y t hn hm (kind-dash (d .n)) e in
         let listed : take count after ≡ answerListing y t =
         written-listing y t before after count (h .answer ∙ ap (λ (x : Reading). compiled x (length before)) e)
         (h .bytes ∙ ap (λ (x : Reading). bufferAfter x before) e) in
-        ap shownField (listed ∙ ap (λ (z : Design). answerListing z t) (sym same)) ∙ meant-field t
+        ap shownField (listed ∙ ap (λ (z : Design). answerListing z t) (sym same)) ∙ answer-field t
     go (refused number line) e =
         let none = h .answer ∙ ap (λ (x : Reading). compiled x (length before)) e in
         let z : _≡_ {A = ℕ} 0 1 = cc in absurd (omega arith)

@@ -4,7 +4,8 @@ use mathlib.Core.List.{List, _++_}
 use mathlib.Core.Path.{_≡_}
 use Prim.Native.Nat.{ℕ}
 use lib.ListN.{take}
-use Rattle.listings.specs.Parts.{parts, bytes, field}
+use Rattle.listings.specs.Parts.{bytes}
+use Rattle.listings.specs.Meaning.{shownField}
 use Rattle.table_texts.specs.declared.sizes.Design.{Design}
 use Rattle.table_texts.specs.First.{dashKind}
 use Rattle.table_texts.specs.Read.{given, reading}
@@ -21,10 +22,6 @@ dashed d rest = designLine d (bytes "-") ++ rest
 -- the same text with the field that `-` means written out
 abbrev pub writtenOut : Design → List ℕ → List ℕ
 writtenOut d rest = designLine d (kindField (dashKind (d .n))) ++ rest
-
--- the field k of a listing, the fourth of its first line: "`form`, n, m, k (a digit), M, i, products, literals"
-abbrev pub shownField : List ℕ → List ℕ
-shownField s = field 3 (parts 10 s .first)
 
 -- W-208 of the texts with these lines after the first
 pub record DashField (d : Design) (rest : List ℕ) : Type 0 where

@@ -14,8 +14,8 @@ use Rattle.expansions.specs.declared.kinds.Kind.{Kind}
 use Rattle.expansions.specs.declared.kinds.Kind.the-variants.{Mixed, Kronecker}
 use Rattle.expansions.specs.Classes.{mostMixed}
 use Rattle.expansions.specs.Least.{Best, nothing, best}
-use Rattle.listings.specs.Parts.{parts, bytes, field}
-use Rattle.listings.specs.Meaning.{statedMixed, statedFixed}
+use Rattle.listings.specs.Parts.{parts, bytes}
+use Rattle.listings.specs.Meaning.{shownField, statedMixed, statedFixed}
 use Rattle.membership.specs.Class.{ofClass}
 use Rattle.table_texts.specs.declared.sizes.Sizes.{Sizes}
 use Rattle.table_texts.specs.declared.sizes.Design.{Design}
@@ -183,7 +183,7 @@ module _ (text s : List ℕ) (d : Design) (table : List ℕ) (accepted : tables.
   kron-listing-refused k = wrong-refused (kron-wrong s k)
 
   -- a listing "shows the k that was used": one with `-` for it is broken
-  pub dash-listing-refused : field 3 (parts 10 s .first) ≡ bytes "-" → checked (tables.reading text) s ≡ Refused 11 1
+  pub dash-listing-refused : shownField s ≡ bytes "-" → checked (tables.reading text) s ≡ Refused 11 1
   dash-listing-refused k = wrong-refused (dash-wrong s k)
 
 -- "the check resolves a dash like the compiler": beside any listing, a text with `-` for k has the answer of the text with what `-` means written out

@@ -2,7 +2,8 @@
 -- bytes. Document 02, W-201: "Read a listing beside its table text and say: not of the class; differs, with the lowest point that differs; or
 -- same." W-202: "In the fitter's check a `kron` listing is 11, line 1, and a `K` table beside a `form` listing is 12." W-203: "The fitter's check takes
 -- both families; a listing of the other family than its table is 12, line 1." W-205: "The fitter's check reads the line and inverts." W-207: of an `f`
--- field, "the listing repeats that field, and the fitter judges by it".
+-- field, "the listing repeats that field, and the fitter judges by it". W-208: "the check resolves a dash like the compiler": both go by what the table text
+-- means.
 use mathlib.Core.Bool.{cond}
 use mathlib.Core.List.{List}
 use mathlib.Core.Logic.{_⊎_, _↔_}

@@ -14,6 +14,7 @@ use Rattle.expansions.specs.declared.families.Family.{Family}
 use Rattle.expansions.specs.declared.families.Family.the-variants.{One, Two}
 use Rattle.listings.specs.Parts.{parts, bytes, same, fields, field}
 use Rattle.listings.specs.Listing.{tabbed, line, formWord, formLine}
+use Rattle.listings.specs.Meaning.{shownField}
 use Rattle.listings.proofs.Joined.{parts-lines}
 use Rattle.listings.proofs.Lengths.{digitsOf-le, length-formWord, length-formLine, length-formFields}
 use Rattle.listings.proofs.Meaning.{plain-form}
@@ -176,14 +177,14 @@ no-family : (x : FamilyRead) → familyThen x Wrong (λ _. Wrong) ≡ Wrong
 no-family (family.Is x) = refl
 no-family family.Wrong = refl
 
-dash-said : mixedSaid (bytes "-") ≡ mixed.Wrong
+dash-no-class : mixedSaid (bytes "-") ≡ mixed.Wrong
 unfolding mixedSaid oneDigit digit bytes
-dash-said = refl
+dash-no-class = refl
 
-pub dash-wrong : (s : List ℕ) → field 3 (parts 10 s .first) ≡ bytes "-" → firstLine (parts 10 s .first) ≡ Wrong
+pub dash-wrong : (s : List ℕ) → shownField s ≡ bytes "-" → firstLine (parts 10 s .first) ≡ Wrong
 unfolding firstLine
 dash-wrong s e =
     let l : List ℕ = parts 10 s .first in
     let none : (family : Family) → sizesOf family (number 4 (field 1 l)) (number 4 (field 2 l)) (mixedSaid (field 3 l)) ≡ sizes.Wrong =
-    λ family. ap (sizesOf family (number 4 (field 1 l)) (number 4 (field 2 l))) (ap mixedSaid e ∙ dash-said) ∙ no-class family (number 4 (field 1 l)) (number 4 (field 2 l)) in
+    λ family. ap (sizesOf family (number 4 (field 1 l)) (number 4 (field 2 l))) (ap mixedSaid e ∙ dash-no-class) ∙ no-class family (number 4 (field 1 l)) (number 4 (field 2 l)) in
     simp none (no-family (familyOf 8 (formWord One) (formWord Two) l))

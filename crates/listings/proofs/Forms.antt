@@ -24,10 +24,10 @@ use Rattle.expansions.specs.Costs.{counted, products, literals}
 use Rattle.expansions.specs.Members.{polarity}
 use Rattle.search.specs.declared.expansion.Expansion.{Expansion}
 use Rattle.expansions.proofs.Costs.{products-le}
-use Rattle.listings.specs.Parts.{parts, bytes, same, fields, field}
+use Rattle.listings.specs.Parts.{parts, bytes, same, fields}
 use Rattle.listings.specs.Listing.{tabbed, line, cube, outputBytes, mixedMark, mixedField, formFields, fieldsOf, formWord, formLine, invLine, cubeLines, printedCubes, listingWith, listing}
 use Rattle.listings.specs.inner.Listable.{Listable}
-use Rattle.listings.specs.Meaning.{outputsSaid, listingInverted, listingValue, listingProducts, listingLiterals, listingCubes, numberSaid, firstNumbers, statedProducts, statedLiterals}
+use Rattle.listings.specs.Meaning.{outputsSaid, listingInverted, listingValue, listingProducts, listingLiterals, listingCubes, numberSaid, firstNumbers, shownField, statedProducts, statedLiterals}
 use Rattle.listings.proofs.Cubes.{cube-holds, cube-literals, outputs-said, decimal-said}
 use Rattle.listings.proofs.Joined.{Plain, AllPlain, parts-fields, parts-lines}
 use Rattle.listings.proofs.Meaning.{plain-decimal, plain-numbers, plain-cube, plain-outputs, plain-form, plain-inv, Heading, heading-line, heading-append, over-terms}
@@ -122,7 +122,7 @@ listing-numbers family C n m k M i p l v w c (hn, (hm, small)) =
     (ap (λ (xs : List ℕ). n ∷ m ∷ numberSaid 0 (mixedField C k) ∷ xs) (numbers-said (M ∷ i ∷ p ∷ l ∷ []) small))
 
 -- the field k on the first line of the listing of a class
-pub listing-field : (C : Class) (family : Family) (n m k : ℕ) (e : Expansion) → field 3 (parts 10 (listing C family n m k e) .first) ≡ mixedField C k
+pub listing-field : (C : Class) (family : Family) (n m k : ℕ) (e : Expansion) → shownField (listing C family n m k e) ≡ mixedField C k
 unfolding listing fields
 listing-field C family n m k e =
     let fs : List (List ℕ) = fieldsOf C n m k e in

@@ -96,6 +96,10 @@ numberSaid v (b ∷ f) = numberSaid (v * 10 + (b - 48)) f
 unfoldable pub firstNumbers : List ℕ → List ℕ
 firstNumbers s = map (numberSaid 0) (parts 9 (parts 10 s .first) .others)
 
+-- the field k that the first line shows, its fourth field: document 02, W-208, "A listing shows the k that was used."
+abbrev pub shownField : List ℕ → List ℕ
+shownField s = field 3 (parts 10 s .first)
+
 -- the mixed set M that the first line states
 abbrev pub statedMixed : List ℕ → ℕ
 statedMixed s = getD (firstNumbers s) 3 0

@@ -18,7 +18,7 @@ use Rattle.table_texts.specs.First.{dashKind, kindOf, tableWord}
 use Rattle.table_texts.specs.Design.{DesignSized}
 use Rattle.table_texts.specs.Accepted.{Accepted}
 use Rattle.table_texts.specs.Read.{given, withDesign, judgedFirst, opened, fromSecond, allLines, reading}
-use Rattle.table_texts.specs.TableTexts.{kindField, pointLines, designLine, textWith, tableText, dashText}
+use Rattle.table_texts.specs.TableTexts.{kindField, pointLines, designLine, textWith, tableText, dashDesign, dashText}
 use Rattle.table_texts.proofs.Design.{design-accepted}
 use Rattle.table_texts.proofs.DesignLine.{kind-dash, kind-said, dash-said, plain-table, plain-said, design-said}
 use Rattle.table_texts.proofs.Points.{points-written}
@@ -42,8 +42,8 @@ pub dash-written-out : (d : Design) (rest : List ℕ) → d .n < 10 → d .m < 1
     → reading (designLine d (bytes "-") ++ rest) ≡ reading (designLine d (kindField (dashKind (d .n))) ++ rest)
 unfolding designLine
 dash-written-out d rest hn hm =
-    let meant : Design = record { n = d .n; m = d .m; kind = dashKind (d .n); family = d .family } in
-    first-read (bytes "-") meant rest hn hm (kind-dash (d .n)) ∙ sym (first-read (kindField (dashKind (d .n))) meant rest hn hm (dash-said (d .n)))
+    first-read (bytes "-") (dashDesign d) rest hn hm (kind-dash (d .n))
+    ∙ sym (first-read (kindField (dashKind (d .n))) (dashDesign d) rest hn hm (dash-said (d .n)))
 
 pub text-accepted : (k : List ℕ) (d : Design) (t : List ℕ) → kindOf (d .n) k ≡ kind.Is (d .kind) → Accepted d t → reading (textWith k d t) ≡ given d t
 unfolding withDesign textWith

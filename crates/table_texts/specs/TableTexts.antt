@@ -10,7 +10,7 @@ use Rattle.expansions.specs.declared.kinds.Kind.the-variants.{Mixed, Kronecker}
 use Rattle.table_texts.specs.declared.sizes.Design.{Design}
 use Rattle.listings.specs.Parts.{bytes}
 use Rattle.listings.specs.Listing.{line, decimal, outputBytes, mixedField}
-use Rattle.table_texts.specs.First.{tableWord}
+use Rattle.table_texts.specs.First.{dashKind, tableWord}
 
 -- "`on`, point, outputs": the point p with the outputs o, of m outputs
 unfoldable pub pointLine : ℕ → ℕ → ℕ → List ℕ
@@ -37,6 +37,10 @@ textWith k d t = designLine d k ++ pointLines (d .m) (at t) (2 ^ d .n) ++ line (
 -- the text with the characters of its kind of k
 unfoldable pub tableText : Design → List ℕ → List ℕ
 tableText d t = textWith (kindField (d .kind)) d t
+
+-- the design that a first line with `-` says, with the n, the m and the family of d
+abbrev pub dashDesign : Design → Design
+dashDesign d = record { n = d .n; m = d .m; kind = dashKind (d .n); family = d .family }
 
 -- "k may be `-`": the text with `-` for k
 unfoldable pub dashText : Design → List ℕ → List ℕ
