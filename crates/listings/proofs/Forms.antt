@@ -27,7 +27,8 @@ use Rattle.expansions.proofs.Costs.{products-le}
 use Rattle.listings.specs.Parts.{parts, bytes, same, fields}
 use Rattle.listings.specs.Listing.{tabbed, line, cube, outputBytes, mixedMark, mixedField, formFields, fieldsOf, formWord, formLine, invLine, cubeLines, printedCubes, listingWith, listing}
 use Rattle.listings.specs.inner.Listable.{Listable}
-use Rattle.listings.specs.Meaning.{outputsSaid, listingInverted, listingValue, listingProducts, listingLiterals, listingCubes, numberSaid, firstNumbers, shownField, statedProducts, statedLiterals}
+use Rattle.listings.specs.Meaning.{outputsSaid, listingInverted, listingValue, listingProducts, listingLiterals, listingCubes}
+use Rattle.listings.specs.Meaning.{numberSaid, firstNumbers, shownField, statedProducts, statedLiterals}
 use Rattle.listings.proofs.Cubes.{cube-holds, cube-literals, outputs-said, decimal-said}
 use Rattle.listings.proofs.Joined.{Plain, AllPlain, parts-fields, parts-lines}
 use Rattle.listings.proofs.Meaning.{plain-decimal, plain-numbers, plain-cube, plain-outputs, plain-form, plain-inv, Heading, heading-line, heading-append, over-terms}
