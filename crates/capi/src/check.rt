@@ -2,6 +2,7 @@
 use fitter::check::Checked;
 ghost use mathlib.Core.Path.{_≡_};
 ghost use Rattle.table_texts.specs.Read.{reading};
+ghost use Rattle.fitter.specs.declared.check.Checked.{Checked};
 ghost use Rattle.fitter.specs.Check.{checked, Check};
 ghost use Rattle.capi.specs.Answers.{checkNumbers};
 
@@ -20,7 +21,7 @@ fn check_numbers(r: Checked) -> [u64; 4]
 // Takes a table text and a listing and tells the check's answer, as `fitter::check::check` does, which judges and refuses.
 #[no_mangle]
 pub extern "C" fn mipaldoz_check(text: &[u8], listing: &[u8], answer: &mut [u64; 4])
-    ensures meaning { λ _. ⌜ Check (now (text .entry)) (now (listing .entry)) (checked (reading (now (text .entry))) (now (listing .entry))) ⌝ }
+    ensures meaning { λ _. ⌜ ((r : Checked) × (now (answer .exit) ≡ checkNumbers r) × Check (now (text .entry)) (now (listing .entry)) r) ⌝ }
     ensures answer { λ _. ⌜ now (answer .exit) ≡ checkNumbers (checked (reading (now (text .entry))) (now (listing .entry))) ⌝ }
 {
     *answer = check_numbers(fitter::check::check(text, listing));

@@ -10,7 +10,8 @@ ghost use mathlib.Core.List.{List};
 ghost use mathlib.Core.Path.{_≡_};
 ghost use Prim.Native.Nat.{ℕ};
 ghost use lib.ListN.{length};
-ghost use Rattle.table_texts.specs.Read.{reading, lent, standsFor, tableAfter};
+ghost use Rattle.table_texts.specs.declared.read.ReadAnswer.{ReadAnswer};
+ghost use Rattle.table_texts.specs.Read.{reading, lent, standsFor, tableAfter, ReadTable};
 ghost use Rattle.text.specs.Compile.{compiled, Compile};
 ghost use Rattle.capi.specs.Answers.{classNumber, familyNumber, designNumbers, readNumbers, listingNumbers};
 
@@ -72,6 +73,7 @@ fn listing_numbers(r: Compiled) -> [u64; 3]
 // Takes a table text and fills a table of 256 bytes, as `table_texts::read::read_table` does, which judges and refuses.
 #[no_mangle]
 pub extern "C" fn mipaldoz_read(text: &[u8], table: &mut [u8], answer: &mut [u64; 7])
+    ensures meaning { λ _. ⌜ ((r : ReadAnswer) × (now (answer .exit) ≡ readNumbers (standsFor r (now (table .exit)))) × ReadTable (now (text .entry)) (now (table .entry)) r (now (table .exit))) ⌝ }
     ensures bytes { λ _. ⌜ now (table .exit) ≡ tableAfter (lent (reading (now (text .entry))) (length (now (table .entry)))) (now (table .entry)) ⌝ }
     ensures answer { λ _. ⌜ now (answer .exit) ≡ readNumbers (lent (reading (now (text .entry))) (length (now (table .entry)))) ⌝ }
 {

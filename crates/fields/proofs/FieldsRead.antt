@@ -33,7 +33,7 @@ oneDigit-read (b ∷ b′ ∷ f) v e =
     let passes = under-test (eqb (suc (suc (length f))) 1) (digit 10 b) v e in
     absurd (omega (arith, eqb-true (suc (suc (length f))) 1 (passes .0)))
 
-oneDigit-lt : (f : List ℕ) (v : ℕ) → oneDigit f ≡ Is v → v < 10
+pub oneDigit-lt : (f : List ℕ) (v : ℕ) → oneDigit f ≡ Is v → v < 10
 unfolding oneDigit
 oneDigit-lt f v e = digit-lt 10 (getD f 0 0) v (under-test (eqb (length f) 1) (digit 10 (getD f 0 0)) v e .1)
 

@@ -1,22 +1,18 @@
 -- When each answer is given, in document 02's words: beside a table whose k is a number (`answers-words`), and beside a `K` table (`kronecker-words`). For
 -- every pair of byte strings: `check-words`. A listing whose first line is wrong is refused by 11, line 1 (`kron-listing-refused`, `dash-listing-refused`), and a
 -- table text with `-` for k is judged as with what `-` means (`dash-checked`).
-use mathlib.Core.Bool.{Bool, true, false, cond}
 use mathlib.Core.List.{List, _++_}
 use mathlib.Core.Logic.{_⊎_, inl, inr}
 use mathlib.Core.Path.{_≡_, refl, sym, ap, _∙_}
 use Prim.Native.Nat.{ℕ, _^_, _≤_, _<_}
 use native.Mathlib.Omega.{arith}
-use Rattle.numbers.specs.Bytes.{at}
 use Rattle.numbers.specs.Refusals.{Sized}
 use Rattle.numbers.proofs.Shifts.{points-le}
 use Rattle.expansions.specs.declared.kinds.Kind.{Kind}
 use Rattle.expansions.specs.declared.kinds.Kind.the-variants.{Mixed, Kronecker}
 use Rattle.expansions.specs.Classes.{mostMixed}
-use Rattle.expansions.specs.Least.{Best, nothing, best}
 use Rattle.listings.specs.Parts.{parts, bytes}
 use Rattle.listings.specs.Meaning.{shownField, statedMixed, statedFixed}
-use Rattle.membership.specs.Class.{ofClass}
 use Rattle.table_texts.specs.declared.sizes.Sizes.{Sizes}
 use Rattle.table_texts.specs.declared.sizes.Design.{Design}
 use Rattle.table_texts.specs.Design.{mixedDesign}
@@ -26,31 +22,22 @@ use Rattle.table_texts.proofs.Design.{mixed-sized}
 use Rattle.table_texts.specs.Read as tables
 use Rattle.table_texts.proofs.read.Accepted.{reading-accepted}
 use Rattle.table_texts.proofs.Acceptance.{dash-written-out}
+use Rattle.table_texts.proofs.Refusals.{text-refusals}
 use Rattle.listing_texts.specs.declared.form.Form.{Form}
 use Rattle.listing_texts.specs.declared.form.FirstLine.the-variants.{Wrong}
 use Rattle.listing_texts.specs.Form.{firstLine, KronListing}
 use Rattle.listing_texts.specs.Listings.{Passes}
-use Rattle.shown_rows.specs.Rows.{coefficientIn, complementedIn}
 use Rattle.listing_texts.specs.Read.{ListingReading, shown, refused, listingReading, besideKronecker}
+use Rattle.lines.specs.FirstBad.{lineAfter, endLine}
 use Rattle.listing_texts.proofs.Exactness.{read-passes, passes-exactly}
+use Rattle.listing_texts.proofs.FirstLines.{next-refused, follow-refused, counts-refused}
 use Rattle.listing_texts.proofs.BesideKronecker.{form-exactly, other-exactly, beside-either, wrong-beside, wrong-read, kron-wrong, dash-wrong}
 use Rattle.fitter.specs.declared.check.Checked.{Checked}
 use Rattle.fitter.specs.declared.check.Checked.the-variants.{Same, Differs, NotOfClass, Refused}
-use Rattle.fitter.specs.Differences.{invertedValue, firstDifference}
-use Rattle.fitter.specs.Check.{compared, judged, judgedKind, judgedDesign, checked, PrintsTable, Answers, KroneckerAnswers, Check}
+use Rattle.fitter.specs.Check.{judged, judgedKind, judgedDesign, checked, PrintsTable, Answers, KroneckerAnswers, Check}
+use Rattle.fitter.proofs.Refusals.{refused-same, refused-not, refused-differs, not-refused, accepted-sized, reading-refused, first-exactly, refused-numbers}
 use Rattle.fitter.proofs.Unlike.{unlike-refused, second-line-refused}
 use Rattle.fitter.proofs.Outcomes.{not-to, not-from, same-to, same-from, differs-to, differs-from}
-
--- ---- the four answers differ
-
-refused-same : {number l : ℕ} → Refused number l ≡ Same → ⊥
-refused-same e = let z : _≡_ {A = ℕ} 0 1 = cc in omega arith
-
-refused-not : {number l : ℕ} → Refused number l ≡ NotOfClass → ⊥
-refused-not e = let z : _≡_ {A = ℕ} 0 1 = cc in omega arith
-
-refused-differs : {number l p : ℕ} → Refused number l ≡ Differs p → ⊥
-refused-differs e = let z : _≡_ {A = ℕ} 0 1 = cc in omega arith
 
 -- ---- beside an accepted table text
 
@@ -89,16 +76,6 @@ module _ (z : Sizes) (table s : List ℕ) (sized : Sized (z .n) (z .m) (mostMixe
   was-read : (a : Checked) → judged z table (listingReading z s) ≡ a → ((number l : ℕ) → a ≡ Refused number l → ⊥) → Read z s
   was-read a e other = read-as a (listingReading z s) e other refl
 
-  not-refused : (f : Form) (v : ℕ) (t : List ℕ) (number l : ℕ) → judged z table (shown f v t) ≡ Refused number l → ⊥
-  unfolding judged
-  not-refused f v t number l e = go (ofClass (z .class) (z .n) (z .k) (f .mixed) (f .fixed) (complementedIn t) (coefficientIn t))
-      (firstDifference (z .n) (invertedValue (z .n) (complementedIn t) (coefficientIn t) v) (at table)) e
-    where
-      go : (b : Bool) (x : Best) → cond b (compared x) NotOfClass ≡ Refused number l → ⊥
-      go true nothing g = refused-same (sym g)
-      go true (best p) g = refused-differs (sym g)
-      go false x g = refused-not (sym g)
-
   pub answers-words : (r : Checked) → r ≡ judged z table (listingReading z s) → Answers z table s r
   answers-words r e =
       record {
@@ -129,7 +106,7 @@ module _ (z : Sizes) (table s : List ℕ) (sized : Sized (z .n) (z .m) (mostMixe
         );
         refusal = (
           (λ other. let x = was-read r (sym e) other in read-passes z s (x .0) (x .1) (x .2) (x .3)),
-          (λ p number l g. let x = passed p in not-refused (x .0) (x .1) (x .2) number l (sym (ap (judged z table) (x .3)) ∙ sym e ∙ g)),
+          (λ p number l g. let x = passed p in not-refused z table (x .0) (x .1) (x .2) number l (sym (ap (judged z table) (x .3)) ∙ sym e ∙ g)),
         );
       }
 
@@ -153,21 +130,7 @@ kronecker-words s r e =
     either (inl h) = inl (told 11 h)
     either (inr h) = inr (told 12 h)
 
--- ---- every pair of byte strings
-
-pub check-words : (text s : List ℕ) (r : Checked) → r ≡ checked (tables.reading text) s → Check text s r
-unfolding checked judgedDesign
-check-words text s r e =
-    record {
-      answer = e;
-      words = λ z table g.
-          let sized = mixed-sized (mixedDesign z) (z .class) (z .k) refl (reading-accepted text (mixedDesign z) table g .sized) in
-          answers-words z table s sized r (e ∙ ap (λ (x : tables.Reading). checked x s) g);
-      unlike = λ z table g l none. e ∙ unlike-refused text s z table g l none;
-      second = λ z table g l same none. e ∙ second-line-refused text s z table g l same none;
-      kronecker = λ d table g k.
-          kronecker-words s r (e ∙ ap (λ (x : tables.Reading). checked x s) g ∙ ap (λ (x : Kind). judgedKind (d .family) (d .n) (d .m) x table s) k);
-    }
+-- ---- a first line that is wrong
 
 -- a listing whose first line is wrong is 11, line 1, beside every accepted table text
 module _ (text s : List ℕ) (d : Design) (table : List ℕ) (accepted : tables.reading text ≡ tables.given d table) where
@@ -185,6 +148,31 @@ module _ (text s : List ℕ) (d : Design) (table : List ℕ) (accepted : tables.
   -- a listing "shows the k that was used": one with `-` for it is broken
   pub dash-listing-refused : shownField s ≡ bytes "-" → checked (tables.reading text) s ≡ Refused 11 1
   dash-listing-refused k = wrong-refused (dash-wrong s k)
+
+-- ---- every pair of byte strings
+
+pub check-words : (text s : List ℕ) (r : Checked) → r ≡ checked (tables.reading text) s → Check text s r
+unfolding checked judgedDesign
+check-words text s r e =
+    record {
+      answer = e;
+      words = λ z table g.
+          let sized = mixed-sized (mixedDesign z) (z .class) (z .k) refl (reading-accepted text (mixedDesign z) table g .sized) in
+          answers-words z table s sized r (e ∙ ap (λ (x : tables.Reading). checked x s) g);
+      text-first = λ number line g. e ∙ ap (λ (x : tables.Reading). checked x s) g;
+      text-words = text-refusals text (λ number line. r ≡ Refused number line) (λ number line g. e ∙ ap (λ (x : tables.Reading). checked x s) g);
+      first = λ z table g. first-exactly text s r e z table g;
+      kron = λ d table g k. e ∙ kron-listing-refused text s d table g k;
+      numbers = λ z table g. refused-numbers text s r e z table g;
+      unlike = λ z table g l none. e ∙ unlike-refused text s z table g l none;
+      second = λ z table g l same none. e ∙ second-line-refused text s z table g l same none;
+      later = λ z table g l bad. e ∙ reading-refused text s z table g 11 (lineAfter (l .before)) (next-refused z s (accepted-sized text z table g) l bad);
+      followed = λ z table g l b more h.
+          e ∙ reading-refused text s z table g 11 (lineAfter (l .before ++ endLine)) (follow-refused z s (accepted-sized text z table g) l b more h);
+      counts = λ z table g l unlike. e ∙ reading-refused text s z table g 12 1 (counts-refused z s (accepted-sized text z table g) l unlike);
+      kronecker = λ d table g k.
+          kronecker-words s r (e ∙ ap (λ (x : tables.Reading). checked x s) g ∙ ap (λ (x : Kind). judgedKind (d .family) (d .n) (d .m) x table s) k);
+    }
 
 -- "the check resolves a dash like the compiler": beside any listing, a text with `-` for k has the answer of the text with what `-` means written out
 pub dash-checked : (d : Design) (rest s : List ℕ) → d .n < 10 → d .m < 10

@@ -1,6 +1,7 @@
 pub mod Differences
 pub mod Bytes
 pub mod Outcomes
+pub mod Refusals
 pub mod Answers
 pub mod Judging
 pub mod Printed

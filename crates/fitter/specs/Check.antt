@@ -5,10 +5,11 @@
 -- field, "the listing repeats that field, and the fitter judges by it". W-208: "the check resolves a dash like the compiler": both go by what the table text
 -- means.
 use mathlib.Core.Bool.{cond}
-use mathlib.Core.List.{List}
+use mathlib.Core.List.{List, _∷_, _++_}
 use mathlib.Core.Logic.{_⊎_, _↔_}
 use mathlib.Core.Path.{_≡_}
-use Prim.Native.Nat.{ℕ, _^_, _<_}
+use Prim.Native.Nat.{ℕ, _+_, _^_, _<_, _≤_}
+use lib.ListN.{length}
 use Rattle.numbers.specs.Bytes.{at}
 use Rattle.expansions.specs.declared.families.Family.{Family}
 use Rattle.expansions.specs.declared.kinds.Kind.{Kind}
@@ -18,13 +19,16 @@ use Rattle.expansions.specs.Members.{InClass, Gives}
 use Rattle.listings.specs.Listing.{printedCubes}
 use Rattle.listings.specs.Meaning.{listingValue, listingCubes, statedMixed, statedFixed}
 use Rattle.membership.specs.Class.{ofClass}
+use Rattle.lines.specs.FirstBad.{lineAfter, endLine}
 use Rattle.table_texts.specs.declared.sizes.Sizes.{Sizes}
 use Rattle.table_texts.specs.declared.sizes.Design.{Design}
 use Rattle.table_texts.specs.Design.{mixedDesign}
+use Rattle.table_texts.specs.Refusals.{TextRefusals}
 use Rattle.table_texts.specs.Read as tables
-use Rattle.listing_texts.specs.Form.{FormListing}
+use Rattle.listing_texts.specs.Form.{FormListing, KronListing}
 use Rattle.listing_texts.specs.Inv.{NoInv}
 use Rattle.listing_texts.specs.Listings.{termListing, Passes}
+use Rattle.listing_texts.specs.FirstLines.{FirstLines, BadNext, CountsUnlike}
 use Rattle.shown_rows.specs.Rows.{coefficientIn, complementedIn}
 use Rattle.listing_texts.specs.Read.{ListingReading, shown, refused, listingReading, besideKronecker}
 use Rattle.fitter.specs.Differences.{invertedValue, firstDifference}
@@ -109,7 +113,19 @@ pub record KroneckerAnswers (s : List ℕ) (r : Checked) : Type 0 where
 -- the check, for every pair of byte strings
 pub record Check (text s : List ℕ) (r : Checked) : Type 0 where
   pub answer : r ≡ checked (tables.reading text) s
+  -- "The table text is judged first.": its refusal is the answer, with its number and its line, whatever the listing is
+  pub text-first : (number line : ℕ) → tables.reading text ≡ tables.refused number line → r ≡ Refused number line
+  -- and so the answer is refused in the documents' words, by the first bad line of the text
+  pub text-words : TextRefusals text (λ number line. r ≡ Refused number line)
   pub words : (z : Sizes) (table : List ℕ) → tables.reading text ≡ tables.given (mixedDesign z) table → Answers z table s r
+  -- "A broken listing line .. is 11 with its line in the listing": 11 with line 1 is said of the listings whose first line is no `form` or `form2` line, and of
+  -- no others
+  pub first : (z : Sizes) (table : List ℕ) → tables.reading text ≡ tables.given (mixedDesign z) table → (r ≡ Refused 11 1) ↔ (FormListing s → ⊥)
+  -- W-202: "In the fitter's check a `kron` listing is 11, line 1", beside every table text that is accepted
+  pub kron : (d : Design) (table : List ℕ) → tables.reading text ≡ tables.given d table → KronListing s → r ≡ Refused 11 1
+  -- "is 11 with its line in the listing", "is 12 with line 1": a listing is refused by no other number
+  pub numbers : (z : Sizes) (table : List ℕ) → tables.reading text ≡ tables.given (mixedDesign z) table → (number line : ℕ) → r ≡ Refused number line
+      → ((number ≡ 11) × (1 ≤ line) × (line ≤ 1 + length s)) ⊎ ((number ≡ 12) × (line ≡ 1))
   -- "n, m or k unlike the table's is 12 with line 1, before any later line is read"; "a listing of the other family than its table is 12, line 1"; W-207:
   -- "`f` with a digit above 2 or above n is .. in a listing 12", and so is an `f` field beside a digit: whatever the later lines are
   pub unlike : (z : Sizes) (table : List ℕ) → tables.reading text ≡ tables.given (mixedDesign z) table → (l : FormListing s) → (l .form .sizes ≡ z → ⊥)
@@ -118,4 +134,14 @@ pub record Check (text s : List ℕ) (r : Checked) : Type 0 where
   -- the second is broken or is not there, whatever the later lines are
   pub second : (z : Sizes) (table : List ℕ) → tables.reading text ≡ tables.given (mixedDesign z) table → (l : FormListing s) → l .form .sizes ≡ z
       → NoInv (z .m) (l .rest) → r ≡ Refused 11 2
+  -- "A broken listing line, or a term whose t is not above the one before, is 11 with its line in the listing": where the lines before it pass, whatever
+  -- follows it
+  pub later : (z : Sizes) (table : List ℕ) → tables.reading text ≡ tables.given (mixedDesign z) table → (l : FirstLines z s) → BadNext z s l
+      → r ≡ Refused 11 (lineAfter (l .before))
+  -- "and so is an end that refusal 6 would catch in a table text": a byte after the `end` line, with the line that it begins
+  pub followed : (z : Sizes) (table : List ℕ) → tables.reading text ≡ tables.given (mixedDesign z) table → (l : FirstLines z s) → (b : ℕ) (more : List ℕ)
+      → l .rest ≡ endLine ++ b ∷ more → r ≡ Refused 11 (lineAfter (l .before ++ endLine))
+  -- "counts unlike the lines are 12 with line 1", after every line has passed
+  pub counts : (z : Sizes) (table : List ℕ) → tables.reading text ≡ tables.given (mixedDesign z) table → (l : FirstLines z s) → CountsUnlike z s l
+      → r ≡ Refused 12 1
   pub kronecker : (d : Design) (table : List ℕ) → tables.reading text ≡ tables.given d table → d .kind ≡ Kronecker → KroneckerAnswers s r

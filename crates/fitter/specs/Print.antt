@@ -6,6 +6,7 @@ use Prim.Native.Nat.{ℕ, _-_, _≤_}
 use lib.ListN.{length, take, replicate}
 use Rattle.listings.specs.Parts.{bytes}
 use Rattle.listings.specs.Listing.{line, decimal}
+use Rattle.listings.specs.Meaning.{firstNumbers}
 use Rattle.expansions.specs.declared.kinds.Kind.the-variants.{Kronecker}
 use Rattle.table_texts.specs.declared.sizes.Sizes.{Sizes}
 use Rattle.table_texts.specs.declared.sizes.Design.{Design}
@@ -40,4 +41,9 @@ pub record Print (text listing held : List ℕ) (count : ℕ) : Type 0 where
   -- and beside a `K` table the first 8,192 bytes of any listing give its refusal
   pub whole-kronecker : (d : Design) (table : List ℕ) → reading text ≡ given d table → d .kind ≡ Kronecker
       → take count held ≡ answerLine (checked (reading text) listing)
-  pub meaning : Check (judged text) (judged listing) (checked (reading (judged text)) (judged listing))
+  -- what is printed is the line of an answer, and this is the check's, in document 02's words
+  pub meaning : (r : Checked) × (take count held ≡ answerLine r) × Check (judged text) (judged listing) r
+  -- "the line `refused`, number, line": the numbers on the line, read in base ten
+  pub refusal : (number l : ℕ) → Check (judged text) (judged listing) (Refused number l) → firstNumbers (take count held) ≡ number ∷ l ∷ []
+  -- "differs, with the lowest point that differs"
+  pub point : (p : ℕ) → Check (judged text) (judged listing) (Differs p) → firstNumbers (take count held) ≡ p ∷ []

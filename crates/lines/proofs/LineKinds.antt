@@ -4,6 +4,8 @@ use mathlib.Core.Bool.{Bool, true, false, cond, _&&_}
 use mathlib.Core.List.{List, [], _∷_, _++_, append-assoc}
 use mathlib.Core.Path.{_≡_, refl, sym, ap, ap₂, subst, _∙_}
 use Prim.Native.Nat.{ℕ, zero, suc, _+_, _^_, _≤_, _<_}
+use native.Mathlib.Decide.{ℕ-discrete}
+use native.Mathlib.Nat.{not-suc-le-zero}
 use native.Mathlib.Numerals.{add-one}
 use native.Mathlib.Omega.{arith}
 use borrow.Author.Tests.{lt-ltb, le-leb, ltb-true, ltb-false, leb-true, eqb-true, eqb-false}
@@ -17,22 +19,23 @@ use Rattle.numbers.proofs.Bytes.{Filled, filled-none, filled-more, is-table}
 use Rattle.numbers.proofs.Nonzero.{nonzero-some, overNonzero-more, overNonzero-ext, overNonzero-zero}
 use Rattle.numbers.proofs.Tables.{getD-zeros}
 use Rattle.numbers.proofs.Tests.{both-left, both-right}
-use Rattle.listings.specs.Parts.{parts, bytes}
+use Rattle.listings.specs.Parts.{Parts, parts, bytes}
 use Rattle.listings.specs.Listing.{tabbed, line}
 use Rattle.listings.proofs.Joined.{Plain, AllPlain, parts-lines}
 use Rattle.listings.proofs.Parts.{separated, parts-joined}
 use Rattle.lines.specs.declared.rows.RowLine.{RowLine}
 use Rattle.lines.specs.declared.rows.RowLine.the-variants.{Row, End, Wrong}
 use Rattle.lines.specs.Rows.{RowsRead, rows, refused, ended, judgedRow, laterLines}
+use Rattle.lines.specs.FirstBad.{Above}
 
 -- ---- a kind of line
 
 -- the row that puts v at the place p is a line of the word and these fields, and v is a value of the kind there; and `end` is the line of the end
-pub record LineKind (n : ℕ) (says : List ℕ → RowLine) (word : List ℕ) (fieldsOf : ℕ → ℕ → List (List ℕ)) (Value : ℕ → ℕ → Type 0) : Type 0 where
+pub record LineKind (says : List ℕ → RowLine) (word : List ℕ) (fieldsOf : ℕ → ℕ → List (List ℕ)) (Value : ℕ → ℕ → Type 0) : Type 0 where
   pub plain : Plain word
   pub plain-fields : (p v : ℕ) → AllPlain (fieldsOf p v)
   pub some : (p v : ℕ) → Value p v → v ≡ 0 → ⊥
-  pub row-said : (p v : ℕ) → p < 2 ^ n → Value p v → says (word ++ tabbed (fieldsOf p v)) ≡ Row p v
+  pub row-said : (p v : ℕ) → Value p v → says (word ++ tabbed (fieldsOf p v)) ≡ Row p v
   pub row-read : (l : List ℕ) (p v : ℕ) → says l ≡ Row p v → (l ≡ word ++ tabbed (fieldsOf p v)) × Value p v
   pub end-said : says (bytes "end") ≡ End
   pub end-read : (l : List ℕ) → says l ≡ End → l ≡ bytes "end"
@@ -51,17 +54,17 @@ pub record Held (N : ℕ) (Value : ℕ → ℕ → Type 0) (t : List ℕ) : Type
   pub rest : (p : ℕ) → N ≤ p → at t p ≡ 0
   pub each : (p : ℕ) → (at t p ≡ 0 → ⊥) → Value p (at t p)
 
-held-none : (Value : ℕ → ℕ → Type 0) → Held 0 Value (replicate 256 0)
+pub held-none : (Value : ℕ → ℕ → Type 0) → Held 0 Value (replicate 256 0)
 held-none Value = record { long = length-replicate {A = ℕ} 256 0; rest = λ p h. getD-zeros 256 p; each = λ p h. absurd (h (getD-zeros 256 p)) }
 
 module _ (Value : ℕ → ℕ → Type 0) (least : ℕ) (t : List ℕ) (g : Held least Value t) (p v : ℕ) (above : least ≤ p) (below : p < 256) (good : Value p v) where
-  here : at (set t p v) p ≡ v
+  pub here : at (set t p v) p ≡ v
   here = getD-set-same t p v 0 (omega (arith, g .long))
 
   other : (q : ℕ) → (q ≡ p → ⊥) → at (set t p v) q ≡ at t q
   other q e = getD-set-other t p q v 0 e
 
-  held-more : Held (p + 1) Value (set t p v)
+  pub held-more : Held (p + 1) Value (set t p v)
   held-more =
       record {
         long = length-set t p v ∙ g .long;
@@ -85,16 +88,16 @@ ended-read number t u [] [] e = (cc, refl)
 ended-read number t u [] (l ∷ ls) e = absurd (no-refusal e)
 ended-read number t u (b ∷ l) ls e = absurd (no-refusal e)
 
-end-line : bytes "end" ++ 10 ∷ [] ≡ line (bytes "end") []
+pub end-line : bytes "end" ++ 10 ∷ [] ≡ line (bytes "end") []
 unfolding line tabbed bytes
 end-line = refl
 
-line-ended : (word l s : List ℕ) (fs : List (List ℕ)) → l ≡ word ++ tabbed fs → l ++ 10 ∷ s ≡ line word fs ++ s
+pub line-ended : (word l s : List ℕ) (fs : List (List ℕ)) → l ≡ word ++ tabbed fs → l ++ 10 ∷ s ≡ line word fs ++ s
 unfolding line
 line-ended word l s fs e = rw e (sym (append-assoc (word ++ tabbed fs) (10 ∷ []) s))
 
 module _ (n : ℕ) (says : List ℕ → RowLine) (word : List ℕ) (fieldsOf : ℕ → ℕ → List (List ℕ)) (Value : ℕ → ℕ → Type 0)
-    (kind : LineKind n says word fieldsOf Value) (low : 2 ^ n ≤ 256) where
+    (kind : LineKind says word fieldsOf Value) (low : 2 ^ n ≤ 256) where
   -- ---- what is written is read
 
   lines-more : (f : ℕ → ℕ) (N : ℕ) (s : List ℕ) (v : ℕ) → f N ≡ v
@@ -109,7 +112,7 @@ module _ (n : ℕ) (says : List ℕ → RowLine) (word : List ℕ) (fieldsOf : �
   row-passed number least t p v s below above good =
       rw (
         parts-lines word (fieldsOf p v) s (kind .plain) (kind .plain-fields p v),
-        kind .row-said p v below good,
+        kind .row-said p v good,
         lt-ltb p (2 ^ n) below,
         le-leb least p above,
       )
@@ -118,14 +121,18 @@ module _ (n : ℕ) (says : List ℕ → RowLine) (word : List ℕ) (fieldsOf : �
   unfolding laterLines ended line tabbed bytes parts
   end-passed number least t = rw (kind .end-said)
 
-  -- the lines of the places below N have been read, and s is what follows them
-  record Passed (start : ℕ) (f : ℕ → ℕ) (N : ℕ) (s : List ℕ) : Type 0 where
-    number : ℕ
-    least : ℕ
-    values : List ℕ
-    below : least ≤ N
-    filled : Filled f N (replicate 256 0) values
-    follows : linesFrom says n start 0 (replicate 256 0) (rowLines word fieldsOf f N ++ s) ≡ linesFrom says n number least values s
+  -- the lines of the places below N have been read, and s is what follows them: its first line has the number `number`, and its place must be `least` or
+  -- more, which is above the places before
+  pub record Passed (start : ℕ) (f : ℕ → ℕ) (N : ℕ) (s : List ℕ) : Type 0 where
+    pub number : ℕ
+    pub least : ℕ
+    pub values : List ℕ
+    pub below : least ≤ N
+    pub filled : Filled f N (replicate 256 0) values
+    pub follows : linesFrom says n start 0 (replicate 256 0) (rowLines word fieldsOf f N ++ s) ≡ linesFrom says n number least values s
+    pub counted : start + length (parts 10 (rowLines word fieldsOf f N ++ s) .others) ≡ number + length (parts 10 s .others)
+    pub above : (p : ℕ) → least ≤ p → Above N f p
+    pub listed : (p : ℕ) → Above N f p → least ≤ p
 
   module _ (start : ℕ) (f : ℕ → ℕ) (good : (p : ℕ) → p < 2 ^ n → (f p ≡ 0 → ⊥) → Value p (f p)) where
     filled-next : (N : ℕ) (t : List ℕ) (v : ℕ) → f N ≡ v → N < 2 ^ n → Filled f N (replicate 256 0) t → Filled f (suc N) (replicate 256 0) (set t N v)
@@ -145,7 +152,16 @@ module _ (n : ℕ) (says : List ℕ → RowLine) (word : List ℕ) (fieldsOf : �
           below = omega (arith, w .below);
           filled = filled-next N (w .values) 0 e h (w .filled);
           follows = rw (lines-more f N s 0 e, kept) (w .follows);
+          counted = rw (lines-more f N s 0 e) (w .counted);
+          above = λ p g q l some. w .above p g q (unlisted q l some) some;
+          listed = λ p g. w .listed p (λ q l some. g q (omega arith) some);
         }
+      where
+        unlisted : (q : ℕ) → q < suc N → (f q ≡ 0 → ⊥) → q < N
+        unlisted q l some = go (ℕ-discrete q N) where
+          go : Dec (q ≡ N) → q < N
+          go (yes same) = absurd (some (ap f same ∙ e))
+          go (no other) = omega arith
     passed-more N s (suc v) e h w =
         let value : Value N (suc v) = rw e at (good N h (λ z. omega arith)) in
         record {
@@ -155,12 +171,27 @@ module _ (n : ℕ) (says : List ℕ → RowLine) (word : List ℕ) (fieldsOf : �
           below = omega arith;
           filled = filled-next N (w .values) (suc v) e h (w .filled);
           follows = rw (lines-more f N s (suc v) e) (w .follows ∙ row-passed (w .number) (w .least) (w .values) N (suc v) s h (w .below) value);
+          counted =
+              let one = ap (λ (p : Parts). length (p .others)) (parts-lines word (fieldsOf N (suc v)) s (kind .plain) (kind .plain-fields N (suc v))) in
+              rw (lines-more f N s (suc v) e) (omega (arith, w .counted, one));
+          above = λ p g q l some. omega arith;
+          listed = λ p g. omega (arith, g N (omega arith) (λ z. omega arith));
         }
 
-    passed : (N : ℕ) (s : List ℕ) → N ≤ 2 ^ n → Passed start f N s
+    pub passed : (N : ℕ) (s : List ℕ) → N ≤ 2 ^ n → Passed start f N s
     unfolding overNonzero
     passed zero s h =
-        record { number = start; least = 0; values = replicate 256 0; below = omega arith; filled = filled-none f (replicate 256 0); follows = refl }
+        record {
+          number = start;
+          least = 0;
+          values = replicate 256 0;
+          below = omega arith;
+          filled = filled-none f (replicate 256 0);
+          follows = refl;
+          counted = refl;
+          above = λ p g q l some. absurd (not-suc-le-zero l);
+          listed = λ p g. omega arith;
+        }
     passed (suc N) s h = passed-more N s (f N) refl h (passed N (ifNonzero (f N) (line word (fieldsOf N (f N))) ++ s) (omega arith))
 
     -- the values as they are read: those of f below 2 ^ n, and 0 from there on
@@ -184,7 +215,7 @@ module _ (n : ℕ) (says : List ℕ → RowLine) (word : List ℕ) (fieldsOf : �
     characters : s ≡ rowLines word fieldsOf (at u) (2 ^ n) ++ line (bytes "end") []
     held : Held (2 ^ n) Value u
 
-  lines-next : (least : ℕ) (t : List ℕ) (p v : ℕ) (s : List ℕ) → Held least Value t → least ≤ p → p < 2 ^ n → Value p v
+  pub lines-next : (least : ℕ) (t : List ℕ) (p v : ℕ) (s : List ℕ) → Held least Value t → least ≤ p → p < 2 ^ n → Value p v
       → rowLines word fieldsOf (at t) least ++ (line word (fieldsOf p v) ++ s) ≡ rowLines word fieldsOf (at (set t p v)) (p + 1) ++ s
   lines-next least t p v s g above below good =
       let at-p = here Value least t g p v above (omega arith) good in

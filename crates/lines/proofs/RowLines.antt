@@ -27,6 +27,7 @@ use Rattle.lines.specs.declared.rows.RowLine.the-variants.{Row, End, Wro
 use Rattle.fields.specs.Fields.{andThen, headed, number, outputs}
 use Rattle.fields.specs.Cubes.{cubeSaid}
 use Rattle.lines.specs.Rows.{tableGrammar, listingGrammar, onRow, cubeThen, termRow, ofKind, rowLine}
+use Rattle.lines.specs.FirstBad.{OnLine}
 use Rattle.fields.proofs.Numbers.{outputs-lt}
 use Rattle.fields.proofs.Written.{number-decimal, outputs-written}
 use Rattle.fields.proofs.FieldsRead.{number-read, outputs-read}
@@ -36,13 +37,13 @@ use Rattle.lines.proofs.LineKinds.{LineKind}
 
 -- ---- what a line is not
 
-wrong-row : {p v : ℕ} → Wrong ≡ Row p v → ⊥
+pub wrong-row : {p v : ℕ} → Wrong ≡ Row p v → ⊥
 wrong-row e = let z : _≡_ {A = ℕ} 0 1 = cc in omega arith
 
-end-row : {p v : ℕ} → End ≡ Row p v → ⊥
+pub end-row : {p v : ℕ} → End ≡ Row p v → ⊥
 end-row e = let z : _≡_ {A = ℕ} 0 1 = cc in omega arith
 
-wrong-end : Wrong ≡ End → ⊥
+pub wrong-end : Wrong ≡ End → ⊥
 wrong-end e = let z : _≡_ {A = ℕ} 0 1 = cc in omega arith
 
 -- a row that is said under a test: the test passes
@@ -64,11 +65,6 @@ row-line g l p v = go (same l (bytes "end")) where
   go false e = e
 
 -- ---- a row of a table text
-
--- what holds of the outputs o at the point p
-pub record PointValue (m p o : ℕ) : Type 0 where
-  pub below : o < 2 ^ m
-  pub some : o ≡ 0 → ⊥
 
 pub plain-on : Plain (bytes "on")
 unfolding bytes
@@ -93,34 +89,36 @@ on-never-end (numbers.Is a) (numbers.Is b) e = end-row (sym e)
 on-never-end (numbers.Is a) numbers.Wrong e = wrong-end e
 on-never-end numbers.Wrong y e = wrong-end e
 
-on-read : (m : ℕ) (l : List ℕ) (p o : ℕ) → onRow m l ≡ Row p o → (l ≡ bytes "on" ++ tabbed (decimal p ∷ outputBytes m o ∷ [])) × PointValue m p o
+on-read : (m : ℕ) (l : List ℕ) (p o : ℕ) → onRow m l ≡ Row p o → (l ≡ bytes "on" ++ tabbed (decimal p ∷ outputBytes m o ∷ [])) × OnLine m p o
 unfolding onRow
 on-read m l p o e =
     let passes = under-test (headed 3 (bytes "on") l) _ p o e in
     let said = on-fields (number 3 (field 1 l)) (outputs m (field 2 l)) p o (passes .1) in
+    let point = number-read 3 (field 1 l) p (lit≤ tt) (said .0) in
     let found = outputs-read m (field 2 l) o (said .1) in (
-      two-fields (bytes "on") l (decimal p) (outputBytes m o) (passes .0) (number-read 3 (field 1 l) p (lit≤ tt) (said .0) .0) (found .0),
-      record { below = outputs-lt m (field 2 l) o (said .1); some = found .1 },
+      two-fields (bytes "on") l (decimal p) (outputBytes m o) (passes .0) (point .0) (found .0),
+      record { digits = point .1; below = outputs-lt m (field 2 l) o (said .1); some = found .1 },
     )
 
 -- ---- a row of a listing
 
--- what holds of the value v at the term t: its outputs are below 2 ^ m and not all 0, and its complemented inputs are among the term's
-pub record TermValue (m t v : ℕ) : Type 0 where
+-- what holds of the value v at the term t of n inputs: its outputs are below 2 ^ m and not all 0, and its complemented inputs are among the term's
+pub record TermValue (n m t v : ℕ) : Type 0 where
+  pub term : t < 2 ^ n
   pub outputs : v % 256 < 2 ^ m
   pub some : v % 256 ≡ 0 → ⊥
   pub within : T (inside (v / 256) t)
   pub small : v < 65536
 
-term-said : (n m t v : ℕ) → t < 2 ^ n → TermValue m t v
+term-said : (n m t v : ℕ) → TermValue n m t v
     → rowLine (listingGrammar n m) (bytes "term" ++ tabbed (cube n t (v / 256) ∷ outputBytes m (v % 256) ∷ [])) ≡ Row t v
 unfolding rowLine termRow headed fields same bytes
-term-said n m t v h g =
+term-said n m t v g =
     let shown : bitAnd t (v / 256) ≡ v / 256 = and-comm t (v / 256) ∙ inside-and (v / 256) t (g .within) in
     let value : bitAnd t (v / 256) * 256 + v % 256 ≡ v = omega arith in
     rw (
       parts-fields (bytes "term") (cube n t (v / 256) ∷ outputBytes m (v % 256) ∷ []) plain-term (plain-cube n t (v / 256), (plain-outputs m (v % 256), tt)),
-      cube-written n t (v / 256) h,
+      cube-written n t (v / 256) (g .term),
       outputs-written m (v % 256) (g .outputs) (g .some),
       value,
     )
@@ -146,7 +144,7 @@ term-never-end (cubes.Is a c) numbers.Wrong e = wrong-end e
 term-never-end cubes.Wrong y e = wrong-end e
 
 term-read : (n m : ℕ) (l : List ℕ) (t v : ℕ) → n ≤ 8 → m ≤ 8 → termRow n m l ≡ Row t v
-    → (l ≡ bytes "term" ++ tabbed (cube n t (v / 256) ∷ outputBytes m (v % 256) ∷ [])) × TermValue m t v
+    → (l ≡ bytes "term" ++ tabbed (cube n t (v / 256) ∷ outputBytes m (v % 256) ∷ [])) × TermValue n m t v
 unfolding termRow
 term-read n m l t v hn hm e =
     let passes = under-test (headed 3 (bytes "term") l) _ t v e in
@@ -160,6 +158,7 @@ term-read n m l t v hn hm e =
           (shown .characters ∙ ap (cube n t) high)
           (found .0 ∙ ap (outputBytes m) low),
       record {
+        term = shown .term;
         outputs = rw (← low) below;
         some = λ z. found .1 (low ∙ z);
         within = rw (← high) (shown .within);
@@ -182,14 +181,13 @@ end-read g l = go (same l (bytes "end")) (g .kind) refl where
   go false Listing h e = absurd (never-end (headed 3 (bytes "term") l) _ (term-never-end (cubeSaid (g .n) (field 1 l)) (outputs (g .m) (field 2 l))) e)
 
 -- "`on`, point, outputs"
-pub table-kind : (n m : ℕ) → n ≤ 8
-    → LineKind n (rowLine (tableGrammar n m)) (bytes "on") (λ p o. decimal p ∷ outputBytes m o ∷ []) (PointValue m)
-table-kind n m hn =
+pub table-kind : (n m : ℕ) → LineKind (rowLine (tableGrammar n m)) (bytes "on") (λ p o. decimal p ∷ outputBytes m o ∷ []) (OnLine m)
+table-kind n m =
     record {
       plain = plain-on;
       plain-fields = λ p o. (plain-decimal p, (plain-outputs m o, tt));
       some = λ p o good. good .some;
-      row-said = λ p o h good. on-said n m p o (omega (arith, points-le n hn)) (good .below) (good .some);
+      row-said = λ p o good. on-said n m p o (good .digits) (good .below) (good .some);
       row-read = λ l p o e. on-read m l p o (row-line (tableGrammar n m) l p o e);
       end-said = end-said (tableGrammar n m);
       end-read = end-read (tableGrammar n m);
@@ -197,13 +195,13 @@ table-kind n m hn =
 
 -- "`term`, cube, outputs"
 pub listing-kind : (n m : ℕ) → n ≤ 8 → m ≤ 8
-    → LineKind n (rowLine (listingGrammar n m)) (bytes "term") (λ t v. cube n t (v / 256) ∷ outputBytes m (v % 256) ∷ []) (TermValue m)
+    → LineKind (rowLine (listingGrammar n m)) (bytes "term") (λ t v. cube n t (v / 256) ∷ outputBytes m (v % 256) ∷ []) (TermValue n m)
 listing-kind n m hn hm =
     record {
       plain = plain-term;
       plain-fields = λ t v. (plain-cube n t (v / 256), (plain-outputs m (v % 256), tt));
       some = λ t v good e. good .some (rw e);
-      row-said = λ t v h good. term-said n m t v h good;
+      row-said = λ t v good. term-said n m t v good;
       row-read = λ l t v e. term-read n m l t v hn hm (row-line (listingGrammar n m) l t v e);
       end-said = end-said (listingGrammar n m);
       end-read = end-read (listingGrammar n m);

@@ -74,7 +74,7 @@ pub record ListingIs (z : Sizes) (s : List ℕ) (f : Form) (v : ℕ) (t : List �
   pub literals-counted : f .literals ≡ literals (z .n) (coefficientIn t)
   pub characters : s ≡ termListing z v (f .mixed) (f .fixed) (complementedIn t) (coefficientIn t)
 
-counts-right : (n : ℕ) (f : Form) (t : List ℕ) → countsRight n f t ≡ true
+pub counts-right : (n : ℕ) (f : Form) (t : List ℕ) → countsRight n f t ≡ true
     → (f .products ≡ products n (coefficientIn t)) × (f .literals ≡ literals n (coefficientIn t))
 unfolding countsRight
 counts-right n f t e = (eqb-true _ _ (both-left _ (eqb (f .literals) (literals n (coefficientIn t))) e), eqb-true _ _ (both-right (eqb (f .products) (products n (coefficientIn t))) _ e))
@@ -83,14 +83,14 @@ counts-right n f t e = (eqb-true _ _ (both-left _ (eqb (f .literals) (literals n
 lines-passed : (n : ℕ) (g : Form) (u : ℕ) (f : Form) (v : ℕ) (r : lines.RowsRead) (t : List ℕ) → linesJudged n g u r ≡ shown f v t
     → (r ≡ lines.rows t) × (g ≡ f) × (u ≡ v) × (countsRight n f t ≡ true)
 unfolding linesJudged
-lines-passed n g u f v (lines.rows x) t e = go (countsRight n g x) refl e where
-  go : (b : Bool) → countsRight n g x ≡ b → cond b (shown g u x) (refused 12 1) ≡ shown f v t
+lines-passed n g u f v (lines.rows x) t e = go _ _ (countsRight n g x) refl e where
+  go : (number at : ℕ) (b : Bool) → countsRight n g x ≡ b → cond b (shown g u x) (refused number at) ≡ shown f v t
       → (lines.rows x ≡ lines.rows t) × (g ≡ f) × (u ≡ v) × (countsRight n f t ≡ true)
-  go true h e =
+  go number at true h e =
       let same : g ≡ f = cc in
       let rows : x ≡ t = cc in
       (ap lines.rows rows, same, cc, ap₂ (countsRight n) (sym same) (sym rows) ∙ h)
-  go false h e = absurd (no-refusal e)
+  go number at false h e = absurd (no-refusal e)
 lines-passed n g u f v (lines.refused number at) t e = absurd (no-refusal e)
 
 -- what holds of the lines after the first, which are read as the mask v and the rows t
@@ -222,7 +222,7 @@ module _ (z : Sizes) (v M i : ℕ) (w c : ℕ → ℕ) (sized : Sized (z .n) (z 
         alike-self z sized,
         parts-lines (bytes "inv") mask rest plain-inv (plain-outputs (z .m) v, tt),
         inv-said (z .m) v hv,
-        term-rows-written (z .n) (z .m) 3 w c (sized .inputs .1) (sized .outputs .1) small,
+        term-rows-written (z .n) (z .m) w c (sized .inputs .1) (sized .outputs .1) small 3,
         counts-written,
       )
 

@@ -4,8 +4,10 @@ pub mod InvRead
 pub mod Opened
 pub mod WrittenRows
 pub mod Exactness
+pub mod FirstLines
 pub mod Unlike
 pub mod SecondLine
 pub mod BesideKronecker
 pub mod Length
 pub mod ReadBack
+pub mod Decided

@@ -1,13 +1,15 @@
 -- A listing by its first line and what follows it, and that by the second line and what follows it.
-use mathlib.Core.List.{List, [], _∷_, _++_, append-assoc}
-use mathlib.Core.Path.{_≡_, sym, ap, _∙_}
+use mathlib.Core.List.{List, _++_}
+use mathlib.Core.Path.{_≡_, ap, _∙_}
 use Prim.Native.Nat.{ℕ, suc, _≤_, _<_}
 use lib.ListN.{length, drop}
 use Rattle.listings.specs.Parts.{parts}
 use Rattle.listings.specs.Listing.{tabbed, line}
-use Rattle.listings.proofs.Parts.{separated, parts-joined, others-none, others-more}
+use Rattle.listings.proofs.Parts.{others-none, others-more}
 use Rattle.fields.specs.Fields.{andThen}
 use Rattle.lines.specs.Rows.{rowsFrom}
+use Rattle.lines.proofs.LineKinds.{line-ended}
+use Rattle.lines.proofs.FirstBad.{first-split}
 use Rattle.table_texts.specs.declared.sizes.Sizes.{Sizes}
 use Rattle.listing_texts.specs.declared.form.Form.{Form}
 use Rattle.listing_texts.specs.Form.{firstLine}
@@ -37,14 +39,7 @@ module _ (s : List ℕ) (h : length (parts 10 s .first) < length s) where
   -- the line and what follows it, as the fields of the line are known
   pub split-joined : (word : List ℕ) (fs : List (List ℕ)) → parts 10 s .first ≡ word ++ tabbed fs
       → s ≡ line word fs ++ drop (suc (length (parts 10 s .first))) s
-  unfolding separated line
-  split-joined word fs e =
-      let rest : List ℕ = drop (suc (length (parts 10 s .first))) s in
-      sym (parts-joined 10 s)
-      ∙ ap (λ (ls : List (List ℕ)). parts 10 s .first ++ separated 10 ls) (others-more 10 s h)
-      ∙ ap (λ (r : List ℕ). parts 10 s .first ++ 10 ∷ r) (parts-joined 10 rest)
-      ∙ ap (λ (l : List ℕ). l ++ 10 ∷ rest) e
-      ∙ sym (append-assoc (word ++ tabbed fs) (10 ∷ []) rest)
+  split-joined word fs e = first-split s h ∙ line-ended word (parts 10 s .first) (drop (suc (length (parts 10 s .first))) s) fs e
 
 -- ---- where none does
 

@@ -4,4 +4,5 @@ pub mod Read
 pub mod Record
 pub mod ReadBack
 pub mod Listings
+pub mod FirstLines
 pub mod inner

@@ -115,13 +115,13 @@ fn judge_counts(n: usize, form: Form, inverted: usize, rows: &[u16; PLACES]) -> 
     let counted = count_rows(n, rows);
     if form.products != counted.products {
         return Judged::Refused {
-            number: 12,
+            number: 12, // after every line has passed
             line: 1,
         };
     }
     if form.literals != counted.literals {
         return Judged::Refused {
-            number: 12,
+            number: 12, // though the products are right
             line: 1,
         };
     }

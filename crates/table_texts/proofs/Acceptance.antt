@@ -23,7 +23,7 @@ use Rattle.table_texts.proofs.Design.{design-accepted}
 use Rattle.table_texts.proofs.DesignLine.{kind-dash, kind-said, dash-said, plain-table, plain-said, design-said}
 use Rattle.table_texts.proofs.Points.{points-written}
 
-design-judged : (d : Design) → DesignSized d → judgedFirst (first.Table d) ≡ answer.Given d
+pub design-judged : (d : Design) → DesignSized d → judgedFirst (first.Table d) ≡ answer.Given d
 unfolding judgedFirst
 design-judged d g = rw (design-accepted d g)
 

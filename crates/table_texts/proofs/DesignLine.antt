@@ -4,7 +4,7 @@
 use mathlib.Core.Bool.{Bool, true, false, cond}
 use mathlib.Core.List.{List, [], _∷_, _++_}
 use mathlib.Core.Logic.{_⊎_, inl, inr}
-use mathlib.Core.Path.{_≡_, refl, sym, ap, ap₂, _∙_}
+use mathlib.Core.Path.{_≡_, refl, sym, ap, ap₂, subst, _∙_}
 use Prim.Native.Nat.{ℕ, _<_}
 use native.Mathlib.Omega.{arith}
 use lib.Dec.{eqb, lit<}
@@ -29,7 +29,7 @@ use Rattle.fields.specs.declared.values.MixedRead.{MixedRead}
 use Rattle.fields.specs.declared.values.MixedRead.the-variants as mixed
 use Rattle.fields.specs.Fields.{digit, oneDigit, mixedSaid, familyOf, familyThen}
 use Rattle.fields.proofs.Written.{oneDigit-decimal, mixed-said}
-use Rattle.fields.proofs.FieldsRead.{oneDigit-read, mixed-read}
+use Rattle.fields.proofs.FieldsRead.{oneDigit-read, oneDigit-lt, mixed-read}
 use Rattle.fields.proofs.Headed.{list-each, family-said, family-read}
 use Rattle.table_texts.specs.declared.first.KindRead.{KindRead}
 use Rattle.table_texts.specs.declared.first.KindRead.the-variants as kind
@@ -40,6 +40,7 @@ use Rattle.table_texts.specs.Design.{designRefusal, KindSized}
 use Rattle.table_texts.specs.First.{mixedKind, dashKind, kindOf, kindThen, tableLine, tableWord, firstLine}
 use Rattle.table_texts.specs.Read.{judgedFirst}
 use Rattle.table_texts.specs.TableTexts.{kindField}
+use Rattle.table_texts.specs.Refusals.{OneDigit}
 
 -- ---- the kind of k
 
@@ -113,6 +114,22 @@ kind-read n f x e = go (same f (bytes "-")) refl (same f (bytes "K")) refl e whe
       inl (same-equal f (bytes "K") k ∙ ap kindField is)
   go false h false k g = inl (class-read f x (mixedSaid f) refl g)
 
+class-digit : (f : List ℕ) (x : Kind) (y : MixedRead) → mixedSaid f ≡ y → mixedKind y ≡ kind.Is x → OneDigit x
+class-digit f x (mixed.Is C k) h e =
+    let same : Mixed C k ≡ x = cc in
+    subst OneDigit same (mixed-read f C k h .1)
+class-digit f x mixed.Wrong h e = absurd (wrong-kind e)
+
+-- and where the kind has a k it is one digit
+pub kind-digit : (n : ℕ) (f : List ℕ) (x : Kind) → kindOf n f ≡ kind.Is x → OneDigit x
+unfolding kindOf dashKind
+kind-digit n f x e = go (same f (bytes "-")) (same f (bytes "K")) (eqb n 1) e where
+  go : (t u v : Bool) → cond t (kind.Is (Mixed Free (cond v 1 2))) (cond u (kind.Is Kronecker) (mixedKind (mixedSaid f))) ≡ kind.Is x → OneDigit x
+  go true u true g = let is : Mixed Free 1 ≡ x = cc in subst OneDigit is (lit< tt)
+  go true u false g = let is : Mixed Free 2 ≡ x = cc in subst OneDigit is (lit< tt)
+  go false true v g = let is : Kronecker ≡ x = cc in subst OneDigit is tt
+  go false false v g = class-digit f x (mixedSaid f) refl g
+
 -- ---- what is written is read
 
 pub plain-table : (family : Family) → Plain (tableWord family)
@@ -168,6 +185,8 @@ pub record DesignRead (l : List ℕ) (d : Design) : Type 0 where
   pub kind-field : List ℕ
   pub characters : l ≡ tableWord (d .family) ++ tabbed (decimal (d .n) ∷ decimal (d .m) ∷ kind-field ∷ [])
   pub said : kindOf (d .n) kind-field ≡ kind.Is (d .kind)
+  pub n-digit : d .n < 10
+  pub m-digit : d .m < 10
 
 wrong-table : {d : Design} → first.Wrong ≡ first.Table d → ⊥
 wrong-table e = let z : _≡_ {A = ℕ} 0 1 = cc in omega arith
@@ -208,4 +227,6 @@ design-read l d e = go (familyOf 4 (tableWord One) (tableWord Two) l) refl e whe
             (oneDigit-read (field 1 l) (d .n) (said .0))
             (oneDigit-read (field 2 l) (d .m) (said .1)));
         said = said .2;
+        n-digit = oneDigit-lt (field 1 l) (d .n) (said .0);
+        m-digit = oneDigit-lt (field 2 l) (d .m) (said .1);
       }

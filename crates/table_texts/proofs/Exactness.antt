@@ -18,7 +18,7 @@ use Rattle.table_texts.specs.First.{dashKind, kindOf, tableWord, firstLi
 use Rattle.table_texts.specs.Design.{designRefusal}
 use Rattle.table_texts.specs.Accepted.{Accepted}
 use Rattle.table_texts.specs.Read.{given, judgedFirst, opened, fromSecond, allLines, reading}
-use Rattle.table_texts.specs.TableTexts.{kindField, pointLines, designLine, textWith, tableText, dashText}
+use Rattle.table_texts.specs.TableTexts.{kindField, pointLines, designLine, textWith, tableText, dashText, IsText}
 use Rattle.table_texts.proofs.read.Accepted.{no-refusal, with-given, refused-given, first-sized, reading-accepted, design-given}
 use Rattle.table_texts.proofs.Acceptance.{first-read, table-text-accepted, dash-text-accepted}
 use Rattle.table_texts.proofs.DesignLine.{kind-read, design-read}
@@ -85,7 +85,7 @@ unfolding reading
 text-read s d t e = subst (λ (r : List ℕ). TextRead r d t) (parts-joined 10 s) (all-read (parts 10 s .first) (parts 10 s .others) d t e)
 
 pub accepted-text : (s : List ℕ) (d : Design) (t : List ℕ) → reading s ≡ given d t
-    → (s ≡ tableText d t) ⊎ ((d .kind ≡ dashKind (d .n)) × (s ≡ dashText d t))
+    → IsText s d t
 unfolding tableText dashText
 accepted-text s d t e = go (text-read s d t e) where
   go : TextRead s d t → (s ≡ textWith (kindField (d .kind)) d t) ⊎ ((d .kind ≡ dashKind (d .n)) × (s ≡ textWith (bytes "-") d t))
@@ -99,8 +99,8 @@ accepted-text s d t e = go (text-read s d t e) where
     either (inr h) = inr (h .0, written (bytes "-") (h .1))
 
 pub accepted-exactly : (s : List ℕ) (d : Design) (t : List ℕ)
-    → (reading s ≡ given d t) ↔ (Accepted d t × ((s ≡ tableText d t) ⊎ ((d .kind ≡ dashKind (d .n)) × (s ≡ dashText d t))))
+    → (reading s ≡ given d t) ↔ (Accepted d t × IsText s d t)
 accepted-exactly s d t = (λ e. (reading-accepted s d t e, accepted-text s d t e), λ h. back (h .0) (h .1)) where
-  back : Accepted d t → (s ≡ tableText d t) ⊎ ((d .kind ≡ dashKind (d .n)) × (s ≡ dashText d t)) → reading s ≡ given d t
+  back : Accepted d t → IsText s d t → reading s ≡ given d t
   back g (inl e) = ap reading e ∙ table-text-accepted d t g
   back g (inr e) = ap reading (e .1) ∙ dash-text-accepted d t g (e .0)

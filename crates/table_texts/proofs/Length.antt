@@ -3,7 +3,7 @@
 -- or a k of one character has a byte less (`longest-accepted`, `longest-length`, `longest-text`).
 use mathlib.Core.Bool.{Bool, true, false}
 use mathlib.Core.List.{List}
-use mathlib.Core.Logic.{_⊎_, inl, inr}
+use mathlib.Core.Logic.{inl, inr}
 use mathlib.Core.Path.{_≡_, refl, _∙_}
 use Prim.Native.Nat.{ℕ, zero, suc, _+_, _*_, _^_, _≤_, _<_}
 use native.Mathlib.Omega.{arith}
@@ -26,14 +26,14 @@ use Rattle.table_texts.specs.Design.{KindSized, KindFor}
 use Rattle.table_texts.specs.Accepted.{Accepted}
 use Rattle.listings.specs.Parts.{bytes}
 use Rattle.listings.specs.Listing.{tabbed, line, digitCount, descending, decimal, mixedMark, mixedField}
-use Rattle.table_texts.specs.First.{dashKind, tableWord}
+use Rattle.table_texts.specs.First.{tableWord}
 use Rattle.table_texts.specs.Read.{given, reading}
 use Rattle.table_texts.proofs.read.Accepted.{reading-accepted}
 use Rattle.listings.proofs.Characters.{length-decimal, length-outputs}
 use Rattle.listings.proofs.Lengths.{length-mixedMark}
 use Rattle.listings.proofs.Longest.{digitCount-one}
 use Rattle.numbers.proofs.Shifts.{points-le}
-use Rattle.table_texts.specs.TableTexts.{pointLine, pointLines, kindField, designLine, textWith, tableText, dashText}
+use Rattle.table_texts.specs.TableTexts.{pointLine, pointLines, kindField, designLine, textWith, tableText, dashText, IsText}
 use Rattle.table_texts.proofs.Acceptance.{table-text-accepted}
 use Rattle.table_texts.proofs.Exactness.{accepted-text}
 
@@ -111,7 +111,7 @@ length-tableWord Two = omega arith
 pub accepted-text-length : (s : List ℕ) (d : Design) (t : List ℕ) → reading s ≡ given d t → length s ≤ 4004
 unfolding tableText dashText
 accepted-text-length s d t e = go (reading-accepted s d t e) (accepted-text s d t e) where
-  go : Accepted d t → (s ≡ tableText d t) ⊎ ((d .kind ≡ dashKind (d .n)) × (s ≡ dashText d t)) → length s ≤ 4004
+  go : Accepted d t → IsText s d t → length s ≤ 4004
   go g (inl h) =
       rw h (omega (arith, text-length (kindField (d .kind)) d t g, length-kind (d .n) (d .kind) (g .sized .mixed), length-tableWord (d .family)))
   go g (inr h) = rw (h .1) (omega (arith, text-length (bytes "-") d t g, length-dash, length-tableWord (d .family)))

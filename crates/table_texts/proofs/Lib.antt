@@ -4,3 +4,5 @@ pub mod Points
 pub mod Acceptance
 pub mod Exactness
 pub mod Length
+pub mod Refusals
+pub mod Decided

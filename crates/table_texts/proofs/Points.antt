@@ -5,6 +5,7 @@ use mathlib.Core.List.{List, [], _++_}
 use mathlib.Core.Path.{_≡_, refl, sym, ap, _∙_}
 use Prim.Native.Nat.{ℕ, _^_, _≤_, _<_}
 use native.Mathlib.Decide.{ℕ-discrete}
+use native.Mathlib.Omega.{arith}
 use borrow.Author.Tests.{ltb-false}
 use lib.Dec.{ltb}
 use lib.ListN.{replicate}
@@ -18,12 +19,13 @@ use Rattle.listings.specs.Listing.{line}
 use Rattle.listings.proofs.Parts.{separated}
 use Rattle.lines.specs.Rows.{tableGrammar, rows, rowLine, laterLines, rowsFrom}
 use Rattle.lines.proofs.LineKinds.{Held, rows-written, parts-read}
-use Rattle.lines.proofs.RowLines.{PointValue, table-kind}
+use Rattle.lines.specs.FirstBad.{OnLine}
+use Rattle.lines.proofs.RowLines.{table-kind}
 use Rattle.table_texts.specs.Accepted.{Table}
 use Rattle.table_texts.specs.TableTexts.{pointLine, pointLines}
 
 module _ (n m : ℕ) (few : n ≤ 8) where
-  table-held : (t : List ℕ) → Held (2 ^ n) (PointValue m) t → Table n m t
+  pub table-held : (t : List ℕ) → Held (2 ^ n) (OnLine m) t → Table n m t
   table-held t g = record { long = g .long; small = λ p. go p (ℕ-discrete (at t p) 0); rest = g .rest } where
     go : (p : ℕ) → Dec (at t p ≡ 0) → at t p < 2 ^ m
     go p (yes e) = rw e (pow-pos m)
@@ -35,7 +37,7 @@ module _ (n m : ℕ) (few : n ≤ 8) where
       → (l ++ separated 10 ls ≡ pointLines m (at t) (2 ^ n) ++ line (bytes "end") []) × Table n m t
   unfolding pointLine
   points-read number l ls t e =
-      let read = parts-read n (rowLine (tableGrammar n m)) (bytes "on") _ (PointValue m) (table-kind n m few) (points-le n few) number l ls t e in
+      let read = parts-read n (rowLine (tableGrammar n m)) (bytes "on") _ (OnLine m) (table-kind n m) (points-le n few) number l ls t e in
       (read .0, table-held t (read .1))
 
   table-rows : (t : List ℕ) → Table n m t → t ≡ tabulate 256 (λ p. only (ltb p (2 ^ n)) (at t p))
@@ -49,6 +51,6 @@ module _ (n m : ℕ) (few : n ≤ 8) where
       → rowsFrom (tableGrammar n m) number (pointLines m (at t) (2 ^ n) ++ line (bytes "end") []) ≡ rows t
   unfolding pointLine
   points-written number t g =
-      rows-written n (rowLine (tableGrammar n m)) (bytes "on") _ (PointValue m) (table-kind n m few) (points-le n few) number (at t)
-      (λ p h some. record { below = g .small p; some = some })
+      rows-written n (rowLine (tableGrammar n m)) (bytes "on") _ (OnLine m) (table-kind n m) (points-le n few) number (at t)
+      (λ p h some. record { digits = omega (arith, points-le n few); below = g .small p; some = some })
       ∙ ap rows (sym (table-rows t g))

@@ -1,3 +1,4 @@
 pub mod Judged
 pub mod Steps
 pub mod Accepted
+pub mod Words

@@ -3,3 +3,4 @@ pub mod First
 pub mod Read
 pub mod Accepted
 pub mod TableTexts
+pub mod Refusals

@@ -2,6 +2,7 @@
 -- declines".
 use mathlib.Core.Bool.{cond}
 use mathlib.Core.List.{List, [], _∷_}
+use mathlib.Core.Logic.{_↔_}
 use mathlib.Core.Path.{_≡_}
 use Prim.Native.Nat.{ℕ, zero, suc}
 use lib.Dec.{eqb}
@@ -16,6 +17,9 @@ use Rattle.table_texts.specs.declared.read.ReadAnswer.{ReadAnswer}
 use Rattle.table_texts.specs.declared.read.ReadAnswer.the-variants as answer
 use Rattle.table_texts.specs.Design.{designRefusal}
 use Rattle.table_texts.specs.First.{firstLine}
+use Rattle.table_texts.specs.Accepted.{Accepted}
+use Rattle.table_texts.specs.TableTexts.{IsText}
+use Rattle.table_texts.specs.Refusals.{TextRefusals}
 
 -- "returns n, m, k", of k "the kind of k", and "the family too", and "fills a lent table of 256 bytes"; "A refusal returns its number and the line"
 pub data Reading : Type 0 where
@@ -77,3 +81,10 @@ tableAfter (refused number line) before = before
 pub record ReadTable (text before : List ℕ) (r : ReadAnswer) (after : List ℕ) : Type 0 where
   pub result : standsFor r after ≡ lent (reading text) (length before)
   pub table : after ≡ tableAfter (lent (reading text) (length before)) before
+  -- a design and a table are given exactly where they are within the limits, the text is theirs, and the lent table has 256 bytes
+  pub accepted : (d : Design) (t : List ℕ) → ((r ≡ answer.Given d) × (after ≡ t)) ↔ (Accepted d t × IsText text d t × (length before ≡ 256))
+  -- "the first bad line counts": a text is refused by the number and the line of what it breaks, whatever follows and whatever is lent
+  pub refusals : TextRefusals text (λ number line. r ≡ answer.Refused number line)
+  -- "8. A lent table .. has another length than its call states", with line 0: after the text
+  pub room : (d : Design) (t : List ℕ) → Accepted d t → IsText text d t → (length before ≡ 256 → ⊥) → r ≡ answer.Refused 8 0
+  pub kept : (number line : ℕ) → r ≡ answer.Refused number line → after ≡ before

@@ -2,6 +2,8 @@
 -- lines `on`, point, outputs ..; `end`."; document 02, W-203: or `table2`. Its lines, its numbers in base ten and its outputs are those of a
 -- listing.
 use mathlib.Core.List.{List, [], _∷_, _++_}
+use mathlib.Core.Logic.{_⊎_}
+use mathlib.Core.Path.{_≡_}
 use Prim.Native.Nat.{ℕ, _^_}
 use Rattle.numbers.specs.Bytes.{at}
 use Rattle.numbers.specs.Nonzero.{overNonzero}
@@ -45,3 +47,7 @@ dashDesign d = record { n = d .n; m = d .m; kind = dashKind (d .n); family = d .
 -- "k may be `-`": the text with `-` for k
 unfoldable pub dashText : Design → List ℕ → List ℕ
 dashText d t = textWith (bytes "-") d t
+
+-- s is the text for the design d and the table t, with the characters of its kind of k, or with `-` where this means it
+abbrev pub IsText : List ℕ → Design → List ℕ → Type 0
+IsText s d t = (s ≡ tableText d t) ⊎ ((d .kind ≡ dashKind (d .n)) × (s ≡ dashText d t))

@@ -16,9 +16,11 @@ use Rattle.expansions.specs.declared.kinds.Kind.{Kind}
 use Rattle.expansions.specs.declared.kinds.Kind.the-variants.{Mixed, Kronecker}
 use Rattle.table_texts.specs.declared.sizes.Design.{Design}
 use Rattle.table_texts.specs.Read.{Reading, given, refused, reading}
+use Rattle.table_texts.specs.Refusals.{TextRefusals}
 use Rattle.listings.specs.Listing.{listing}
 use Rattle.listings.specs.Meaning.{IsListing}
 use Rattle.listing_writing.specs.Write.{recordListing}
+use Rattle.text.specs.Chosen.{IsAnswerListing}
 
 -- the listing of the family's answer for a table, by the kind of k: of a class with k mixed inputs, document 01's or document 02's free class,
 -- "the listing repeats that field", or of the Kronecker expansions
@@ -46,5 +48,10 @@ bufferAfter (refused number line) before = before
 pub record Compile (text before after : List ℕ) (r : Compiled) : Type 0 where
   pub answer : r ≡ compiled (reading text) (length before)
   pub bytes : after ≡ bufferAfter (reading text) before
+  -- "the first bad line counts": a text is refused by the number and the line of what it breaks, whatever follows and whatever is lent
+  pub refusals : TextRefusals text (λ number line. r ≡ Refused number line)
   pub meaning : (d : Design) (table : List ℕ) (written : ℕ) → reading text ≡ given d table → r ≡ Written written
       → IsListing (d .n) (d .family) (d .kind) (at table) (take written after)
+  -- the bytes written are the listing of the answer that the documents define, ties and all
+  pub chosen : (d : Design) (table : List ℕ) (written : ℕ) → reading text ≡ given d table → r ≡ Written written
+      → IsAnswerListing (d .n) (d .m) (d .family) (at table) (take written after) (d .kind)

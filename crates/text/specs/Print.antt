@@ -8,6 +8,7 @@ use Rattle.numbers.specs.Bytes.{at}
 use Rattle.table_texts.specs.declared.sizes.Design.{Design}
 use Rattle.listings.specs.Parts.{bytes}
 use Rattle.table_texts.specs.Read.{Reading, given, refused, reading}
+use Rattle.table_texts.specs.Refusals.{TextRefusals}
 use Rattle.listings.specs.Listing.{line, decimal}
 use Rattle.listings.specs.Meaning.{firstNumbers, IsListing}
 use Rattle.text.specs.Compile.{answerListing}
@@ -38,5 +39,7 @@ pub record Print (input held : List ℕ) (count : ℕ) : Type 0 where
   pub shown : take count held ≡ printed input
   pub meaning : (d : Design) (table : List ℕ) → reading (judged input) ≡ given d table → IsListing (d .n) (d .family) (d .kind) (at table) (take count held)
   pub refusal : (number l : ℕ) → reading (judged input) ≡ refused number l → firstNumbers (take count held) ≡ number ∷ l ∷ []
+  -- "the first bad line counts": they are those of what the text breaks, whatever follows
+  pub refusals : TextRefusals (judged input) (λ number l. firstNumbers (take count held) ≡ number ∷ l ∷ [])
   -- "(every text that can be accepted is shorter)": where the whole input is a text that is accepted, its listing is printed
   pub whole : (d : Design) (table : List ℕ) → reading input ≡ given d table → take count held ≡ answerListing d table

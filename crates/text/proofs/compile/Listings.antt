@@ -1,6 +1,6 @@
 -- Demand 3 of the bytes that the text call writes: the listing of the answer is what `IsListing` says (`answer-listing`), and the text call
 -- leaves it at the front of the buffer (`compile-meaning`).
-use mathlib.Core.Path.{_≡_, sym, ap, subst, _∙_}
+use mathlib.Core.Path.{_≡_, sym, ap, ap₂, subst, _∙_}
 use mathlib.Core.Bool.{Bool, true, false, cond}
 use mathlib.Core.List.{List, _++_}
 use Prim.Native.Nat.{ℕ}
@@ -10,6 +10,7 @@ use lib.ListN.{length, take, drop}
 use lib.Seq.{take-append-seam}
 use Rattle.numbers.specs.Bytes.{at}
 use Rattle.search.specs.Expansion.{answerExpansion}
+use Rattle.kronecker.specs.Expansion.{answerKronecker}
 use Rattle.search.proofs.expansion.Answer.{answerExpansion-is, expansion-coefficients-lt, expansion-inverted-lt}
 use Rattle.expansions.specs.declared.families.Family.{Family}
 use Rattle.expansions.specs.declared.families.Family.the-variants.{One, Two}
@@ -26,8 +27,15 @@ use Rattle.table_texts.specs.Accepted.{Accepted}
 use Rattle.table_texts.specs.Read.{Reading, given, reading, standsFor}
 use Rattle.text.specs.Compile.{kindListing, answerListing, compiled, bufferAfter, Compile}
 use Rattle.listings.specs.Meaning.{IsListing}
+use Rattle.listings.specs.Listing.{formFields, listingWith, listing}
+use Rattle.listings.specs.Kronecker.{kroneckerListing}
+use Rattle.expansions.specs.declared.kinds.Class.the-variants.{Block, Free}
+use Rattle.expansions.specs.Members.{polarity}
+use Rattle.expansions.proofs.FreeAnswers.{free-answer-from}
+use Rattle.text.specs.Chosen.{IsAnswerListing, block, free, kronecker}
 use Rattle.table_texts.proofs.Design.{table-sized}
 use Rattle.table_texts.proofs.read.Accepted.{reading-accepted, reads-refused}
+use Rattle.table_texts.proofs.Refusals.{text-refusals}
 use Rattle.listings.proofs.ListedAnswers.{answer-listed}
 use Rattle.listings.proofs.Kronecker.{kronecker-listed}
 use Rattle.text.proofs.compile.Tables.{table-bytes}
@@ -51,6 +59,31 @@ answer-listing d table a = go (d .family) (d .kind) (a .sized .mixed) (a .sized 
       (omega (arith, answerKronecker-literals-le (d .n) (at table) (a .sized .inputs .1))) (λ t h. small t)
   go Two Kronecker s none = absurd none
 
+-- and it is that of the answer in the documents' words
+pub answer-chosen : (d : Design) (table : List ℕ) → Accepted d table → IsAnswerListing (d .n) (d .m) (d .family) (at table) (answerListing d table) (d .kind)
+unfolding answerListing listing
+answer-chosen d table a = go (d .family) (d .kind) (a .sized .mixed) (a .sized .family) where
+  go : (F : Family) (x : Kind) → KindSized (d .n) x → KindFor F x → IsAnswerListing (d .n) (d .m) F (at table) (kindListing F (d .n) (d .m) x table) x
+  go F (Mixed Block k) s _ =
+      let minimal = answerExpansion-is Block F (d .n) k (at table) (a .sized .inputs .1) (s .1) (table-bytes (d .n) (d .m) table (table-sized d (a .sized)) (a .table)) in
+      let e = answerExpansion Block F (d .n) k (at table) in
+      block k (e .inverted) (e .mixed) (e .fixed) (at (e .blocks)) (at (e .coefficients)) (minimal .answer)
+      (ap₂ (λ (p l : ℕ). listingWith F (formFields Block (d .n) (d .m) k (e .mixed) (e .fixed) p l) (e .inverted) (d .n) (d .m) (polarity Block (d .n) k (e .mixed) (e .fixed) (at (e .blocks))) (at (e .coefficients)))
+      (minimal .products-counted) (minimal .literals-counted))
+  go F (Mixed Free k) s _ =
+      let minimal = answerExpansion-is Free F (d .n) k (at table) (a .sized .inputs .1) (s .1) (table-bytes (d .n) (d .m) table (table-sized d (a .sized)) (a .table)) in
+      let e = answerExpansion Free F (d .n) k (at table) in
+      free k (e .inverted) (e .mixed) (e .fixed) (polarity Free (d .n) k (e .mixed) (e .fixed) (at (e .blocks))) (at (e .coefficients))
+      (free-answer-from F (d .n) k (at table) (e .inverted) (e .mixed) (e .fixed) (at (e .blocks)) (at (e .coefficients)) (s .0) (minimal .answer))
+      (ap₂ (λ (p l : ℕ). listingWith F (formFields Free (d .n) (d .m) k (e .mixed) (e .fixed) p l) (e .inverted) (d .n) (d .m) (polarity Free (d .n) k (e .mixed) (e .fixed) (at (e .blocks))) (at (e .coefficients)))
+      (minimal .products-counted) (minimal .literals-counted))
+  go One Kronecker s _ =
+      let minimal = answerKronecker-is (d .n) (at table) (a .sized .inputs .1) in
+      let e = answerKronecker (d .n) (at table) in
+      kronecker (at (e .letters)) (at (e .coefficients)) (minimal .answer)
+      (ap₂ (λ (p l : ℕ). kroneckerListing (d .n) (d .m) (at (e .letters)) (at (e .coefficients)) p l) (minimal .products-counted) (minimal .literals-counted))
+  go Two Kronecker s none = absurd none
+
 -- ---- the text call
 
 -- where the text is accepted: what it wrote is the listing, and it stands at the front of the buffer
@@ -68,13 +101,18 @@ written-listing z table before after written ew ea = go (leb (length (answerList
 
 pub compile-meaning : (text before after : List ℕ) (r : Compiled) → r ≡ compiled (reading text) (length before) → after ≡ bufferAfter (reading text) before
     → Compile text before after r
+unfolding compiled
 compile-meaning text before after r er ea =
     record {
       answer = er;
       bytes = ea;
+      refusals = text-refusals text (λ number line. r ≡ Refused number line) (λ number line e. er ∙ ap (λ (x : Reading). compiled x (length before)) e);
       meaning = λ d table written e w.
           let listed = written-listing d table before after written (sym w ∙ er ∙ ap (λ (x : Reading). compiled x (length before)) e) (ea ∙ ap (λ (x : Reading). bufferAfter x before) e) in
           subst (IsListing (d .n) (d .family) (d .kind) (at table)) (sym listed) (answer-listing d table (reading-accepted text d table e));
+      chosen = λ d table written e w.
+          let listed = written-listing d table before after written (sym w ∙ er ∙ ap (λ (x : Reading). compiled x (length before)) e) (ea ∙ ap (λ (x : Reading). bufferAfter x before) e) in
+          subst (λ (b : List ℕ). IsAnswerListing (d .n) (d .m) (d .family) (at table) b (d .kind)) (sym listed) (answer-chosen d table (reading-accepted text d table e));
     }
 
 -- by the reading call's answer

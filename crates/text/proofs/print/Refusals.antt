@@ -21,9 +21,9 @@ use Rattle.table_texts.specs.Design.{designRefusal}
 use Rattle.table_texts.proofs.Design.{design-most}
 use Rattle.text.specs.Print.{judged, refusedLine}
 use Rattle.listings.proofs.Parts.{others-le}
-use Rattle.listings.proofs.Joined.{Plain, parts-fields, parts-lines}
+use Rattle.listings.proofs.Joined.{Plain}
 use Rattle.listings.proofs.Lengths.{digitsOf-le, length-numbers}
-use Rattle.listings.proofs.Meaning.{plain-numbers, numbers-said}
+use Rattle.listings.proofs.Meaning.{Small, plain-numbers, numbers-said, heading-numbers}
 
 -- ---- the number and the line
 
@@ -77,16 +77,14 @@ plain-refused : Plain (bytes "refused")
 unfolding bytes
 plain-refused = (lit< tt, (lit< tt, (lit< tt, (lit< tt, (lit< tt, (lit< tt, (lit< tt, tt)))))))
 
+-- the numbers on a line of a word and numbers
+pub line-says : (word : List ℕ) (xs : List ℕ) → Plain word → Small xs → firstNumbers (line word (map decimal xs)) ≡ xs
+line-says word xs plain small =
+    ap firstNumbers (sym (append-nil (line word (map decimal xs)))) ∙ heading-numbers word (map decimal xs) [] plain (plain-numbers xs) ∙ numbers-said xs small
+
 pub refused-line-says : (number l : ℕ) → number < 10000 → l < 10000 → firstNumbers (refusedLine number l) ≡ number ∷ l ∷ []
-unfolding firstNumbers refusedLine
-refused-line-says number l hn hl =
-    let xs : List ℕ = number ∷ l ∷ [] in
-    ap firstNumbers (sym (append-nil (line (bytes "refused") (map decimal xs))))
-    ∙ rw (
-      parts-lines (bytes "refused") (map decimal xs) [] plain-refused (plain-numbers xs),
-      parts-fields (bytes "refused") (map decimal xs) plain-refused (plain-numbers xs),
-    )
-    (numbers-said xs (hn, (hl, tt)))
+unfolding refusedLine
+refused-line-says number l hn hl = line-says (bytes "refused") (number ∷ l ∷ []) plain-refused (hn, (hl, tt))
 
 -- what is judged has at most 8,192 bytes, so the line that is printed for its refusal says the number and the line
 pub refusal-said : (input : List ℕ) (number l : ℕ) → reading (judged input) ≡ refused number l → firstNumbers (refusedLine number l) ≡ number ∷ l ∷ []

@@ -1,7 +1,7 @@
 -- What is printed fits 5,919 bytes (`printed-within`), and stands at their front: after the text call, where it wrote a listing
 -- (`print-written`), and after the line `refused` was written, where it refused the text (`print-refused`).
 use mathlib.Core.Bool.{Bool, true, false, cond}
-use mathlib.Core.List.{List, _++_}
+use mathlib.Core.List.{List, [], _∷_, _++_}
 use mathlib.Core.Path.{_≡_, refl, sym, ap, subst, _∙_}
 use Prim.Native.Nat.{ℕ, _-_, _≤_}
 use native.Mathlib.Omega.{arith}
@@ -27,6 +27,7 @@ use Rattle.text.specs.Compile.{kindListing, answerListing, compiled, buf
 use Rattle.text.specs.Print.{judged, refusedLine, printedFor, printed, Print}
 use Rattle.table_texts.proofs.Design.{table-sized}
 use Rattle.table_texts.proofs.read.Accepted.{reading-accepted}
+use Rattle.table_texts.proofs.Refusals.{text-refusals}
 use Rattle.expansions.proofs.Classes.{most-three}
 use Rattle.listings.proofs.Lengths.{length-formWord, length-mixedMark}
 use Rattle.listings.proofs.Longest.{answer-longest}
@@ -86,6 +87,8 @@ print-holds input held count ec eh =
       meaning = λ d table e.
           subst (IsListing (d .n) (d .family) (d .kind) (at table)) (sym (shown ∙ ap printedFor e)) (answer-listing d table (reading-accepted (judged input) d table e));
       refusal = λ number l e. ap firstNumbers (shown ∙ ap printedFor e) ∙ refusal-said input number l e;
+      refusals = text-refusals (judged input) (λ number l. firstNumbers (take count held) ≡ number ∷ l ∷ [])
+          (λ number l e. ap firstNumbers (shown ∙ ap printedFor e) ∙ refusal-said input number l e);
       whole = λ z table e. shown ∙ ap (λ (x : List ℕ). printedFor (reading x)) (accepted-text-first input z table e) ∙ ap printedFor e;
     }
 

@@ -16,8 +16,10 @@ same-length c = search needs
 
 returns : tie.Need-returns
 returns c =
-    let called = c .before .before .before .read-table in
-    (called .ensures .table, c .read-numbers .ensures _ ∙ ap readNumbers (called .ensures .result))
+    let called = c .before .before .before .read-table in (
+      (called .result, c .read-numbers .ensures _, called .ensures),
+      (called .ensures .table, c .read-numbers .ensures _ ∙ ap readNumbers (called .ensures .result)),
+    )
 
 pub mipaldoz-read-spec : {M : Type 1} → statement M
 mipaldoz-read-spec = tie.close (tie.spec read-table-requires read-numbers-requires same-length returns)

@@ -7,6 +7,7 @@ use lib.ListN.{length}
 use Rattle.numbers.proofs.Shifts.{points-le}
 use Rattle.table_texts.specs.Read.{given, reading, standsFor, lent, tableAfter}
 use Rattle.table_texts.proofs.read.Accepted.{reading-accepted}
+use Rattle.table_texts.proofs.read.Words.{read-words}
 use Rattle.table_texts.proofs.read.read_table.Statement.{statement}
 use Rattle.table_texts.proofs.read.read_table.Tie as tie
 
@@ -26,7 +27,7 @@ returns : tie.Need-returns
 unfolding standsFor lent tableAfter
 returns c =
     let other = ne-eqb (length (c .before .before .before .before .before .before .before .args .table .now)) 256 (c .if1 .taken) in
-    record { result = rw (rows-read (c .before), other); table = rw (rows-read (c .before), other) }
+    read-words _ _ _ _ (rw (rows-read (c .before), other)) (rw (rows-read (c .before), other))
 
 copy-requires : tie.Need-copy-requires
 copy-requires c κs =
@@ -44,18 +45,14 @@ unfolding standsFor lent tableAfter
 returns-2 c =
     let told = c .before .before .before .before .before .before in
     let fits = eq-eqb (length (told .before .before .before .before .before .before .args .table .now)) 256 (c .before .before .before .before .before .if1 .left) in
-    record {
-      result = rw (told .enum-told .given .1, rows-read told, fits, c .before .before .copy .ensures);
-      table = rw (rows-read told, fits, c .before .before .copy .ensures);
-    }
+    read-words _ _ _ _ (rw (told .enum-told .given .1, rows-read told, fits, c .before .before .copy .ensures))
+    (rw (rows-read told, fits, c .before .before .copy .ensures))
 
 returns-3 : tie.Need-returns-3
 unfolding standsFor lent tableAfter
 returns-3 c =
-    record {
-      result = rw (← c .before .before .judge-text .ensures, c .enum-told2 .given .1);
-      table = rw (← c .before .before .judge-text .ensures, c .enum-told2 .given .1);
-    }
+    read-words _ _ _ _ (rw (← c .before .before .judge-text .ensures, c .enum-told2 .given .1))
+    (rw (← c .before .before .judge-text .ensures, c .enum-told2 .given .1))
 
 pub read-table-spec : {M : Type 1} → statement M
 read-table-spec =
