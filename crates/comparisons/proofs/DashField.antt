@@ -29,6 +29,7 @@ use Rattle.table_texts.proofs.Exactness.{first-given}
 use Rattle.text.specs.declared.compile.Compiled.the-variants.{Written}
 use Rattle.text.specs.Compile.{answerListing, compiled, bufferAfter, Compile}
 use Rattle.text.proofs.compile.Listings.{written-listing}
+use Rattle.text.proofs.print.Shown.{print-whole}
 use Rattle.comparisons.specs.DashField.{dashed, DashField}
 
 module _ (d : Design) (rest : List ℕ) (hn : d .n < 10) (hm : d .m < 10) where
@@ -60,7 +61,7 @@ module _ (d : Design) (rest : List ℕ) (hn : d .n < 10) (hm : d .m < 10) where
           a .answer ∙ ap (λ (x : Reading). compiled x (length before)) read ∙ sym (b .answer),
           a .bytes ∙ ap (λ (x : Reading). bufferAfter x before) read ∙ sym (b .bytes),
         );
-        printed = λ y t e held held′ count count′ a b. a .whole y t e ∙ sym (b .whole y t (sym read ∙ e));
+        printed = λ y t e held held′ count count′ a b. print-whole _ _ _ y t a e ∙ sym (print-whole _ _ _ y t b (sym read ∙ e));
         shown = dash-shown;
       }
 

@@ -15,7 +15,8 @@ use Rattle.table_texts.specs.Read.{given, reading}
 use Rattle.table_texts.proofs.read.Accepted.{reading-accepted}
 use Rattle.text.specs.Compile.{answerListing}
 use Rattle.text.specs.Print.{Print}
-use Rattle.text.proofs.compile.Listings.{answer-listing}
+use Rattle.text.proofs.compile.Listings.{answer-listing, compile-listed}
+use Rattle.text.proofs.print.Shown.{print-whole}
 use Rattle.comparisons.specs.Choices.{chosenDesign}
 use Rattle.comparisons.specs.FewerPins.{ListedNoDearer, HasLeastCost, FewerPins}
 use Rattle.comparisons.proofs.Choices.{chosen-accepted}
@@ -38,7 +39,7 @@ least-cost d t a = (listingProducts (answerListing d t), listingLiterals (answer
 -- what the program prints for an accepted text is a listing as demand 3 asks
 pub printed-listing : (text : List ℕ) (d : Design) (t held : List ℕ) (count : ℕ) → reading text ≡ given d t → Print text held count
     → IsListing (d .n) (d .family) (d .kind) (at t) (take count held)
-printed-listing text d t held count e print = rw (print .whole d t e) (answer-listing d t (reading-accepted text d t e))
+printed-listing text d t held count e print = rw (print-whole text held count d t print e) (answer-listing d t (reading-accepted text d t e))
 
 pub fewer-pins : (text : List ℕ) (d : Design) (t : List ℕ) (s : ℕ) → reading text ≡ given d t → IsChoice (d .m) s → FewerPins text d t s
 fewer-pins text d t s e choice =
@@ -51,7 +52,7 @@ fewer-pins text d t s e choice =
       left-out = chosen-read s text d t choice e;
       written = λ fewer means before after before′ after′ count count′ whole chosen.
           listed-no-dearer d t s choice (take count′ after′) (take count after)
-          (chosen .meaning (chosenDesign s d) (chosenTable (d .m) s t) count′ means refl) (whole .meaning d t count e refl);
+          (compile-listed fewer before′ after′ count′ (chosenDesign s d) (chosenTable (d .m) s t) chosen means) (compile-listed text before after count d t whole e);
       printed = λ fewer means held held′ count count′ whole chosen.
           listed-no-dearer d t s choice (take count′ held′) (take count held)
           (printed-listing fewer (chosenDesign s d) (chosenTable (d .m) s t) held′ count′ means chosen) (printed-listing text d t held count e whole);

@@ -16,6 +16,7 @@ use Rattle.listings.specs.Meaning.{IsListing}
 use Rattle.table_texts.specs.Read.{given, reading}
 use Rattle.table_texts.proofs.read.Accepted.{reading-accepted}
 use Rattle.text.specs.Compile.{answerListing}
+use Rattle.text.proofs.compile.Listings.{compile-listed}
 use Rattle.comparisons.specs.FewerPins.{ListedNoDearer}
 use Rattle.comparisons.specs.WiderFields.{freeDesign, WiderFields, AlikeFields}
 use Rattle.comparisons.proofs.FewerPins.{printed-listing}
@@ -34,8 +35,8 @@ pub wider-fields : (n m : ℕ) (family : Family) (t : List ℕ) → WiderFields 
 wider-fields n m family t =
     record {
       written = λ k text wider means means′ before after before′ after′ count count′ a b.
-          listed-wider n k family (at t) (within n m (suc k) family wider t means′) _ _ (b .meaning (freeDesign n m (suc k) family) t count′ means′ refl)
-          (a .meaning (freeDesign n m k family) t count means refl);
+          listed-wider n k family (at t) (within n m (suc k) family wider t means′) _ _ (compile-listed wider before′ after′ count′ (freeDesign n m (suc k) family) t b means′)
+          (compile-listed text before after count (freeDesign n m k family) t a means);
       printed = λ k text wider means means′ held held′ count count′ a b.
           listed-wider n k family (at t) (within n m (suc k) family wider t means′) _ _
           (printed-listing wider (freeDesign n m (suc k) family) t held′ count′ means′ b) (printed-listing text (freeDesign n m k family) t held count means a);

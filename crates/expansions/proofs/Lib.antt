@@ -17,6 +17,7 @@ pub mod Inverters
 pub mod Minimal
 pub mod Answers
 pub mod FreeAnswers
+pub mod ClassAnswers
 pub mod Charges
 pub mod SmallSums
 pub mod BlockTable

@@ -34,24 +34,24 @@ module _ (n k M i : ℕ) (w : ℕ → ℕ) (in-class : InClass Block n k M i w) 
   abbrev size : onesIn n M ≡ k
   size = in-class .pair .size
 
-  shared : ℕ → ℕ
-  shared j = place n M (w (join n M j 0))
+  pub sharedChoice : ℕ → ℕ
+  sharedChoice j = place n M (w (join n M j 0))
 
-  shared-member : Member Block n k M i shared
-  unfolding shared
+  pub shared-member : Member Block n k M i sharedChoice
+  unfolding sharedChoice
   shared-member = record { pair = in-class .pair; inner = λ j l. place-lt n k M size (w (join n M j 0)) }
 
-  shared-polarity : (t : ℕ) → t < 2 ^ n → polarity Block n k M i shared t ≡ w t
-  unfolding shared
+  pub shared-polarity : (t : ℕ) → t < 2 ^ n → polarity Block n k M i sharedChoice t ≡ w t
+  unfolding sharedChoice
   shared-polarity t h =
-      parts-equal n M (polarity Block n k M i shared t) (w t) (polarity-lt Block n k M i shared shared-member t) (in-class .within t h)
-      (polarity-outside Block n k M i shared shared-member t ∙ sym (in-class .outer t h))
-      (polarity-inside Block n k M i shared shared-member t
+      parts-equal n M (polarity Block n k M i sharedChoice t) (w t) (polarity-lt Block n k M i sharedChoice shared-member t) (in-class .within t h)
+      (polarity-outside Block n k M i sharedChoice shared-member t ∙ sym (in-class .outer t h))
+      (polarity-inside Block n k M i sharedChoice shared-member t
       ∙ in-class .shared (join n M (block n M t) 0) t (join-lt n M (block n M t) 0) h (block-join n k M size (block n M t) 0 (block-lt n k M size t)))
 
 pub class-choices : (C : Class) (n k M i : ℕ) (w c : ℕ → ℕ) → k ≤ mostMixed C → InClass C n k M i w
     → (x : ℕ → ℕ) × Member C n k M i x × ((t : ℕ) → t < 2 ^ n → (c t ≡ 0 → ⊥) → bitAnd t (polarity C n k M i x t) ≡ bitAnd t (w t))
 class-choices Block n k M i w c few in-class =
-    (shared n k M i w in-class, shared-member n k M i w in-class, λ t h u. ap (bitAnd t) (shared-polarity n k M i w in-class t h))
+    (sharedChoice n k M i w in-class, shared-member n k M i w in-class, λ t h u. ap (bitAnd t) (shared-polarity n k M i w in-class t h))
 class-choices Free n k M i w c few in-class =
     (shownChoice Free n k M (shows w c), free-member n k M i w c few in-class, free-shows n k M i w c few in-class)

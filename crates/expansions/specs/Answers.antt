@@ -1,6 +1,6 @@
 -- The answer for each class and family, twice. First as documents 01 and 02 say it: the expansion that gives the table and comes first in the family's
--- order. Then as a function, block by block. The function's result is that expansion, and the only one (proofs/Answers, `answer-is`, `answer-only`; of the
--- free class, term by term, proofs/FreeAnswers, `free-answer-is`, `free-answer-only`).
+-- order. Then as a function, block by block. The function's result is that expansion, and the only one (proofs/Answers, `answer-is`, `answer-only`; term
+-- by term, proofs/ClassAnswers, `class-answer-from`, `class-answers-same`).
 use mathlib.Core.Bool.{Bool, true, _&&_}
 use mathlib.Core.Path.{_≡_}
 use Prim.Native.Nat.{ℕ, zero, suc, _+_, _-_, _*_, _/_, _%_, _^_, _≤_, _<_}
@@ -11,7 +11,7 @@ use Rattle.numbers.specs.Tests.{only}
 use Rattle.algebra.specs.Coefficients.{coefficient}
 use Rattle.expansions.specs.Split.{gather, outside, join}
 use Rattle.expansions.specs.declared.kinds.Class.{Class}
-use Rattle.expansions.specs.declared.kinds.Class.the-variants.{Free}
+use Rattle.expansions.specs.declared.kinds.Class.the-variants.{Block, Free}
 use Rattle.expansions.specs.Classes.{choices, placeCoefficient}
 use Rattle.expansions.specs.Members.{block, place, InClass, Gives, polarity, Member, shows}
 use Rattle.expansions.specs.Costs.{products, literals}
@@ -51,7 +51,7 @@ pub record Minimal (C : Class) (F : Family) (n k : ℕ) (f : ℕ → ℕ) (v M i
   pub cheapest : (v′ M′ i′ : ℕ) (x′ c′ : ℕ → ℕ) → Member C n k M′ i′ x′ → Gives n v′ (polarity C n k M′ i′ x′) c′ f
       → NoDearer F p l (products n c′) (literals n c′)
 
--- ---- the answer of the free class, term by term
+-- ---- the answer of either class, term by term
 
 -- the polarity in M, closed up, of the term t: "unused ones zero", so that a term with no coefficient, and an input that the term has not, count as 0
 abbrev pub shownPolarity : (n M : ℕ) (w c : ℕ → ℕ) → ℕ → ℕ
@@ -61,13 +61,20 @@ shownPolarity n M w c t = place n M (shows w c t)
 abbrev pub TermByTerm : ℕ → (w w′ : ℕ → ℕ) → Type 0
 TermByTerm n w w′ = (t : ℕ) → t < 2 ^ n → ((s : ℕ) → s < t → w s ≡ w′ s) → w t ≤ w′ t
 
--- W-207: the expansion of the free class, Definition 1's own, with any polarity over M for each term, any coefficients and any inversion mask, that gives
--- the table and comes first: "Equal costs go by mask, M, i, then the least polarity of term 0, 1, and so on, unused ones zero."
-pub record IsFreeAnswer (F : Family) (n k : ℕ) (f : ℕ → ℕ) (v M i : ℕ) (w c : ℕ → ℕ) : Type 0 where
-  pub in-class : InClass Free n k M i w
+-- what decides between expansions of equal cost, mask, M and i. Document 01: "then in each block the least φj", which every term of the block has in M;
+-- document 02, W-207: "then the least polarity of term 0, 1, and so on, unused ones zero."
+abbrev pub PolaritiesNotAfter : Class → (n M : ℕ) (w c : ℕ → ℕ) → (M′ : ℕ) (w′ c′ : ℕ → ℕ) → Type 0
+PolaritiesNotAfter Block n M w c M′ w′ c′ = (t : ℕ) → t < 2 ^ n → place n M (w t) ≤ place n M′ (w′ t)
+PolaritiesNotAfter Free n M w c M′ w′ c′ = TermByTerm n (shownPolarity n M w c) (shownPolarity n M′ w′ c′)
+
+-- the expansion of the class, with any polarities that the class allows, any coefficients and any inversion mask, that gives the table and comes first:
+-- "fewest products, then fewest literals", in family two "that charge, and among equal charges .. fewest products"; then the least mask, M and i; then the
+-- least polarities
+pub record IsClassAnswer (C : Class) (F : Family) (n k : ℕ) (f : ℕ → ℕ) (v M i : ℕ) (w c : ℕ → ℕ) : Type 0 where
+  pub in-class : InClass C n k M i w
   pub gives : Gives n v w c f
-  pub first : (v′ M′ i′ : ℕ) (w′ c′ : ℕ → ℕ) → InClass Free n k M′ i′ w′ → Gives n v′ w′ c′ f
-      → CostThen F n c c′ (LeastThen v v′ (LeastThen M M′ (LeastThen i i′ (TermByTerm n (shownPolarity n M w c) (shownPolarity n M′ w′ c′)))))
+  pub first : (v′ M′ i′ : ℕ) (w′ c′ : ℕ → ℕ) → InClass C n k M′ i′ w′ → Gives n v′ w′ c′ f
+      → CostThen F n c c′ (LeastThen v v′ (LeastThen M M′ (LeastThen i i′ (PolaritiesNotAfter C n M w c M′ w′ c′))))
 
 -- ---- the answer as a function
 

@@ -9,3 +9,4 @@ pub mod Forms
 pub mod Longest
 pub mod ListedAnswers
 pub mod Kronecker
+pub mod AnswerListings

@@ -2,4 +2,5 @@ pub mod Parts
 pub mod Listing
 pub mod Kronecker
 pub mod Meaning
+pub mod AnswerListing
 pub mod inner

@@ -6,3 +6,4 @@ pub mod Exactness
 pub mod Length
 pub mod Refusals
 pub mod Decided
+pub mod RefusalBounds

@@ -10,51 +10,27 @@ use lib.Dec.{leb}
 use lib.ListN.{length, take, drop, replicate, length-append, length-replicate}
 use lib.Seq.{take-append-seam}
 use Rattle.numbers.specs.Bytes.{at}
-use Rattle.search.specs.Expansion.{answerExpansion}
 use Rattle.numbers.proofs.Tables.{drop-zeros}
-use Rattle.search.proofs.expansion.Answer.{answerExpansion-is}
-use Rattle.expansions.specs.declared.kinds.Kind.{Kind}
-use Rattle.expansions.specs.declared.kinds.Kind.the-variants.{Mixed, Kronecker}
 use Rattle.table_texts.specs.declared.sizes.Design.{Design}
-use Rattle.table_texts.specs.Design.{KindSized}
 use Rattle.text.specs.declared.compile.Compiled.{Compiled}
 use Rattle.text.specs.declared.compile.Compiled.the-variants.{Written, Refused}
 use Rattle.table_texts.specs.Accepted.{Accepted}
+use Rattle.table_texts.specs.TableTexts.{IsText}
 use Rattle.table_texts.specs.Read.{Reading, given, refused, reading}
 use Rattle.writing.specs.Put.{Put}
 use Rattle.listings.specs.Meaning.{firstNumbers, IsListing}
-use Rattle.text.specs.Compile.{kindListing, answerListing, compiled, bufferAfter, Compile}
+use Rattle.listings.specs.AnswerListing.{IsAnswerListing}
+use Rattle.text.specs.Compile.{answerListing, compiled, bufferAfter, Compile}
 use Rattle.text.specs.Print.{judged, refusedLine, printedFor, printed, Print}
-use Rattle.table_texts.proofs.Design.{table-sized}
 use Rattle.table_texts.proofs.read.Accepted.{reading-accepted}
 use Rattle.table_texts.proofs.Refusals.{text-refusals}
-use Rattle.expansions.proofs.Classes.{most-three}
-use Rattle.listings.proofs.Lengths.{length-formWord, length-mixedMark}
-use Rattle.listings.proofs.Longest.{answer-longest}
-use Rattle.listings.proofs.Kronecker.{kronecker-longest}
-use Rattle.kronecker.proofs.expansion.Answer.{answerKronecker-is}
+use Rattle.table_texts.proofs.Exactness.{accepted-exactly}
 use Rattle.table_texts.proofs.Length.{accepted-text-first}
 use Rattle.writing.proofs.Puts.{put-front}
-use Rattle.text.proofs.compile.Tables.{table-bytes}
-use Rattle.text.proofs.compile.Listings.{answer-listing}
+use Rattle.text.proofs.compile.Listings.{answer-listing, answer-chosen, listing-within}
 use Rattle.text.proofs.print.Refusals.{refusal-said, refused-line-le}
 
 -- ---- what is printed fits
-
-listing-within : (d : Design) (table : List ℕ) → Accepted d table → length (answerListing d table) ≤ 5919
-unfolding answerListing
-listing-within d table a = go (d .kind) (a .sized .mixed) where
-  go : (x : Kind) → KindSized (d .n) x → length (kindListing (d .family) (d .n) (d .m) x table) ≤ 5919
-  go (Mixed C k) s =
-      let e = answerExpansion C (d .family) (d .n) k (at table) in
-      let bytes = table-bytes (d .n) (d .m) table (table-sized d (a .sized)) (a .table) in
-      let minimal = answerExpansion-is C (d .family) (d .n) k (at table) (a .sized .inputs .1) (s .1) bytes in
-      let few : k ≤ 3 = omega (arith, s .0, most-three C) in
-      let most = answer-longest C (d .family) (d .n) (d .m) k e (at table) (a .sized .inputs .1) (a .sized .outputs .1) few (s .1) bytes minimal in
-      omega (arith, most, length-formWord (d .family), length-mixedMark C)
-  go Kronecker s =
-      kronecker-longest (d .n) (d .m) _ _ _ _ (a .sized .inputs .1) (a .sized .outputs .1)
-      (answerKronecker-is (d .n) (at table) (a .sized .inputs .1) .products-counted)
 
 pub printed-within : (input : List ℕ) → length (printed input) ≤ 5919
 unfolding printed printedFor
@@ -79,18 +55,28 @@ print-holds input held count ec eh =
     let past = drop-zeros (length (printed input)) 5919 (printed-within input) in
     let filled : held ≡ printed input ++ replicate (5919 - length (printed input)) 0 = eh ∙ ap (λ (v : List ℕ). printed input ++ v) past in
     let shown : take count held ≡ printed input = rw (ec, filled) (take-append-seam (printed input) _) in
+    let listed : (d : Design) (table : List ℕ) → Accepted d table → IsText (judged input) d table → take count held ≡ answerListing d table =
+    λ d table a is. shown ∙ ap printedFor (accepted-exactly (judged input) d table .1 (a, is)) in
     record {
       counted = ec;
       filled = filled;
       within = omega (arith, ec, ap length filled, length-append (printed input) (replicate (5919 - length (printed input)) 0));
       shown = shown;
-      meaning = λ d table e.
-          subst (IsListing (d .n) (d .family) (d .kind) (at table)) (sym (shown ∙ ap printedFor e)) (answer-listing d table (reading-accepted (judged input) d table e));
-      refusal = λ number l e. ap firstNumbers (shown ∙ ap printedFor e) ∙ refusal-said input number l e;
-      refusals = text-refusals (judged input) (λ number l. firstNumbers (take count held) ≡ number ∷ l ∷ [])
-          (λ number l e. ap firstNumbers (shown ∙ ap printedFor e) ∙ refusal-said input number l e);
-      whole = λ z table e. shown ∙ ap (λ (x : List ℕ). printedFor (reading x)) (accepted-text-first input z table e) ∙ ap printedFor e;
+      chosen = λ d table a is.
+          subst (λ (l : List ℕ). IsAnswerListing (d .n) (d .m) (d .family) (at table) l (d .kind)) (sym (listed d table a is)) (answer-chosen d table a);
+      meaning = λ d table a is. subst (IsListing (d .n) (d .family) (d .kind) (at table)) (sym (listed d table a is)) (answer-listing d table a);
+      refusals = text-refusals (judged input) (λ number l. (take count held ≡ refusedLine number l) × (firstNumbers (take count held) ≡ number ∷ l ∷ []))
+          (λ number l e. (shown ∙ ap printedFor e, ap firstNumbers (shown ∙ ap printedFor e) ∙ refusal-said input number l e));
+      whole = λ d table a is. accepted-text-first input d table (accepted-exactly input d table .1 (a, is));
     }
+
+-- where the whole input is accepted, its listing is printed
+pub print-whole : (input held : List ℕ) (count : ℕ) (d : Design) (table : List ℕ) → Print input held count → reading input ≡ given d table
+    → take count held ≡ answerListing d table
+unfolding printed printedFor
+print-whole input held count d table print e =
+    let a = accepted-exactly input d table .0 e in
+    print .shown ∙ ap (λ (x : List ℕ). printedFor (reading x)) (print .whole d table (a .0) (a .1)) ∙ ap printedFor e
 
 -- ---- by the text call's answer
 
