@@ -1,6 +1,7 @@
 // The minimising call. The answer is seven numbers: the refusal's number and its line, M, i, products, literals and the inversion mask.
 ghost use mathlib.Core.Path.{_≡_};
 ghost use lib.ListN.{length};
+ghost use Rattle.minimise_calls.specs.declared.calls.Minimised.{Minimised};
 ghost use Rattle.minimise_calls.specs.Calls.{Minimise};
 ghost use Rattle.capi.specs.Answers.{decidedMinimum, minimumNumbers};
 use minimise_calls::calls::Minimised;
@@ -42,8 +43,8 @@ pub extern "C" fn mipaldoz_minimise(
     blocks: &mut [u8],
     answer: &mut [u64; 7],
 )
-    ensures bytes { λ _. ⌜ Minimise n m k (now (table .entry)) (now (coefficients .entry)) (now (coefficients .exit)) (now (blocks .entry)) (now (blocks .exit))
-        (decidedMinimum n m k (now (table .entry)) (length (now (coefficients .entry))) (length (now (blocks .entry)))) ⌝ }
+    ensures meaning { λ _. ⌜ ((r : Minimised) × (now (answer .exit) ≡ minimumNumbers r)
+        × Minimise n m k (now (table .entry)) (now (coefficients .entry)) (now (coefficients .exit)) (now (blocks .entry)) (now (blocks .exit)) r) ⌝ }
     ensures answer { λ _. ⌜ now (answer .exit) ≡ minimumNumbers (decidedMinimum n m k (now (table .entry)) (length (now (coefficients .entry))) (length (now (blocks .entry)))) ⌝ }
 {
     *answer = minimum_numbers(minimise(n, m, k, table, coefficients, blocks));

@@ -12,6 +12,7 @@ ghost use Prim.Native.Nat.{ℕ};
 ghost use lib.ListN.{length};
 ghost use Rattle.table_texts.specs.declared.read.ReadAnswer.{ReadAnswer};
 ghost use Rattle.table_texts.specs.Read.{reading, lent, standsFor, tableAfter, ReadTable};
+ghost use Rattle.text.specs.declared.compile.Compiled.{Compiled};
 ghost use Rattle.text.specs.Compile.{compiled, Compile};
 ghost use Rattle.capi.specs.Answers.{classNumber, familyNumber, designNumbers, readNumbers, listingNumbers};
 
@@ -84,7 +85,7 @@ pub extern "C" fn mipaldoz_read(text: &[u8], table: &mut [u8], answer: &mut [u64
 // refuses.
 #[no_mangle]
 pub extern "C" fn mipaldoz_compile(text: &[u8], output: &mut [u8], answer: &mut [u64; 3])
-    ensures bytes { λ _. ⌜ Compile (now (text .entry)) (now (output .entry)) (now (output .exit)) (compiled (reading (now (text .entry))) (length (now (output .entry)))) ⌝ }
+    ensures meaning { λ _. ⌜ ((r : Compiled) × (now (answer .exit) ≡ listingNumbers r) × Compile (now (text .entry)) (now (output .entry)) (now (output .exit)) r) ⌝ }
     ensures answer { λ _. ⌜ now (answer .exit) ≡ listingNumbers (compiled (reading (now (text .entry))) (length (now (output .entry)))) ⌝ }
 {
     *answer = listing_numbers(text::compile::compile(text, output));

@@ -1,6 +1,7 @@
 // The transform calls. The answer is two numbers, the refusal's number and its line.
 ghost use mathlib.Core.Path.{_≡_};
 ghost use lib.ListN.{length};
+ghost use Rattle.transform_calls.specs.declared.calls.Transformed.{Transformed};
 ghost use Rattle.transform_calls.specs.Calls.{Forward, Backward};
 ghost use Rattle.capi.specs.Answers.{decided, transformNumbers};
 use transform_calls::calls::Transformed;
@@ -27,7 +28,7 @@ pub extern "C" fn mipaldoz_forward(
     coefficients: &mut [u8],
     answer: &mut [u64; 2],
 )
-    ensures bytes { λ _. ⌜ Forward n m w (now (table .entry)) (now (coefficients .entry)) (now (coefficients .exit)) (decided n m w (now (table .entry)) (length (now (coefficients .entry)))) ⌝ }
+    ensures meaning { λ _. ⌜ ((r : Transformed) × (now (answer .exit) ≡ transformNumbers r) × Forward n m w (now (table .entry)) (now (coefficients .entry)) (now (coefficients .exit)) r) ⌝ }
     ensures answer { λ _. ⌜ now (answer .exit) ≡ transformNumbers (decided n m w (now (table .entry)) (length (now (coefficients .entry)))) ⌝ }
 {
     *answer = answer_numbers(transform_calls::calls::forward(n, m, w, table, coefficients));
@@ -44,7 +45,7 @@ pub extern "C" fn mipaldoz_backward(
     table: &mut [u8],
     answer: &mut [u64; 2],
 )
-    ensures bytes { λ _. ⌜ Backward n m w (now (coefficients .entry)) (now (table .entry)) (now (table .exit)) (decided n m w (now (coefficients .entry)) (length (now (table .entry)))) ⌝ }
+    ensures meaning { λ _. ⌜ ((r : Transformed) × (now (answer .exit) ≡ transformNumbers r) × Backward n m w (now (coefficients .entry)) (now (table .entry)) (now (table .exit)) r) ⌝ }
     ensures answer { λ _. ⌜ now (answer .exit) ≡ transformNumbers (decided n m w (now (coefficients .entry)) (length (now (table .entry)))) ⌝ }
 {
     *answer = answer_numbers(transform_calls::calls::backward(n, m, w, coefficients, table));

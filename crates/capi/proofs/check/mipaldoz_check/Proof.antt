@@ -1,7 +1,8 @@
 -- `mipaldoz_check` meets its contract.
-use mathlib.Core.Path.{ap, _∙_}
-use Rattle.capi.specs.Answers.{checkNumbers}
 use borrow.Author.Needs.{needs}
+use Rattle.fitter.specs.Check.{Check}
+use Rattle.capi.specs.Answers.{checkNumbers}
+use Rattle.capi.proofs.Answers.{answer-told}
 use Rattle.capi.proofs.check.mipaldoz_check.Statement.{statement}
 use Rattle.capi.proofs.check.mipaldoz_check.Tie as tie
 
@@ -14,7 +15,7 @@ check-numbers-requires c κs = search needs
 returns : tie.Need-returns
 returns c =
     let called = c .before .check in
-    ((called .result, c .check-numbers .ensures, called .ensures), c .check-numbers .ensures ∙ ap checkNumbers (called .ensures .answer))
+    answer-told checkNumbers (Check _ _) (called .result) _ _ (called .ensures .answer) (called .ensures) (c .check-numbers .ensures)
 
 pub mipaldoz-check-spec : {M : Type 1} → statement M
 mipaldoz-check-spec = tie.close (tie.spec check-requires check-numbers-requires returns)

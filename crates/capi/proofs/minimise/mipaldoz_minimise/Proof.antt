@@ -2,7 +2,7 @@
 use borrow.Author.Needs.{needs}
 use Rattle.minimise_calls.specs.Calls.{Minimise}
 use Rattle.capi.specs.Answers.{minimumNumbers}
-use Rattle.capi.proofs.Answers.{answer-decided}
+use Rattle.capi.proofs.Answers.{answer-told}
 use Rattle.capi.proofs.minimise.mipaldoz_minimise.Statement.{statement}
 use Rattle.capi.proofs.minimise.mipaldoz_minimise.Tie as tie
 
@@ -21,7 +21,7 @@ same-length-2 c = search needs
 returns : tie.Need-returns
 returns c =
     let called = c .before .before .before .before .before .minimise in
-    answer-decided minimumNumbers (Minimise _ _ _ _ _ _ _ _) (called .result) _ _ (called .ensures .answer) (called .ensures) (c .minimum-numbers .ensures)
+    answer-told minimumNumbers (Minimise _ _ _ _ _ _ _ _) (called .result) _ _ (called .ensures .answer) (called .ensures) (c .minimum-numbers .ensures)
 
 pub mipaldoz-minimise-spec : {M : Type 1} → statement M
 mipaldoz-minimise-spec =

@@ -2,7 +2,7 @@
 use borrow.Author.Needs.{needs}
 use Rattle.text.specs.Compile.{Compile}
 use Rattle.capi.specs.Answers.{listingNumbers}
-use Rattle.capi.proofs.Answers.{answer-decided}
+use Rattle.capi.proofs.Answers.{answer-told}
 use Rattle.capi.proofs.table_text.mipaldoz_compile.Statement.{statement}
 use Rattle.capi.proofs.table_text.mipaldoz_compile.Tie as tie
 
@@ -18,7 +18,7 @@ same-length c = search needs
 returns : tie.Need-returns
 returns c =
     let called = c .before .before .before .compile in
-    answer-decided listingNumbers (Compile _ _ _) (called .result) _ _ (called .ensures .answer) (called .ensures) (c .listing-numbers .ensures)
+    answer-told listingNumbers (Compile _ _ _) (called .result) _ _ (called .ensures .answer) (called .ensures) (c .listing-numbers .ensures)
 
 pub mipaldoz-compile-spec : {M : Type 1} → statement M
 mipaldoz-compile-spec = tie.close (tie.spec compile-requires listing-numbers-requires same-length returns)

@@ -2,7 +2,7 @@
 use borrow.Author.Needs.{needs}
 use Rattle.transform_calls.specs.Calls.{Backward}
 use Rattle.capi.specs.Answers.{transformNumbers}
-use Rattle.capi.proofs.Answers.{answer-decided}
+use Rattle.capi.proofs.Answers.{answer-told}
 use Rattle.capi.proofs.transforms.mipaldoz_backward.Statement.{statement}
 use Rattle.capi.proofs.transforms.mipaldoz_backward.Tie as tie
 
@@ -18,7 +18,7 @@ same-length c = search needs
 returns : tie.Need-returns
 returns c =
     let called = c .before .before .before .backward in
-    answer-decided transformNumbers (Backward _ _ _ _ _ _) (called .result) _ _ (called .ensures .answer) (called .ensures) (c .answer-numbers .ensures)
+    answer-told transformNumbers (Backward _ _ _ _ _ _) (called .result) _ _ (called .ensures .answer) (called .ensures) (c .answer-numbers .ensures)
 
 pub mipaldoz-backward-spec : {M : Type 1} → statement M
 mipaldoz-backward-spec =

@@ -2,7 +2,7 @@
 use borrow.Author.Needs.{needs}
 use Rattle.transform_calls.specs.Calls.{Forward}
 use Rattle.capi.specs.Answers.{transformNumbers}
-use Rattle.capi.proofs.Answers.{answer-decided}
+use Rattle.capi.proofs.Answers.{answer-told}
 use Rattle.capi.proofs.transforms.mipaldoz_forward.Statement.{statement}
 use Rattle.capi.proofs.transforms.mipaldoz_forward.Tie as tie
 
@@ -18,7 +18,7 @@ same-length c = search needs
 returns : tie.Need-returns
 returns c =
     let called = c .before .before .before .forward in
-    answer-decided transformNumbers (Forward _ _ _ _ _ _) (called .result) _ _ (called .ensures .answer) (called .ensures) (c .answer-numbers .ensures)
+    answer-told transformNumbers (Forward _ _ _ _ _ _) (called .result) _ _ (called .ensures .answer) (called .ensures) (c .answer-numbers .ensures)
 
 pub mipaldoz-forward-spec : {M : Type 1} → statement M
 mipaldoz-forward-spec =
