@@ -49,7 +49,7 @@ expand-lanes-requires c κs =
     let laid = c .before .before .before .before .before .lay-out in
     let long = ap length (laid .ensures) ∙ length-tabulate _ _ in (
       blocks-le (s .args .sizes) (s .pre .0),
-      closed-lt (s .args .sizes) (s .args .pair .mixed) _ _ _ (s .pre .1 .0) (c .before .before .before .outside .ensures) (c .before .before .gather .ensures),
+      closed-lt (s .args .sizes) (s .args .pair .mixed) _ _ _ (s .pre .1 .0) (c .before .before .before .outside .ensures) (c .before .before .gather .ensures .0),
       ap length (room-kept 8 (s .args .sizes) (omega arith) (s .pre .0) (laid .last .1 .1 .1 .0) _ long) ∙ long,
       s .pre .1 .1 .1,
     )
@@ -64,7 +64,7 @@ returns c =
     let long = ap length (laid .ensures) ∙ length-tabulate _ _ in
     let kept = room-kept 8 (s .args .sizes) (omega arith) (s .pre .0) (laid .last .1 .1 .1 .0) _ long in
     let others = c .before .before .before .before .before .before .outside .ensures in
-    let fixed = c .before .before .before .before .before .gather .ensures in
+    let fixed = c .before .before .before .before .before .gather .ensures .0 in
     c .before .before .expand-lanes .ensures
     ∙ blocks-expanded (s .args .sizes) (s .args .pair .mixed) (s .args .pair .fixed) _ _ (s .pre .1 .0) others fixed (s .args .table .now) _ (kept ∙ laid .ensures)
 
