@@ -65,7 +65,7 @@ returns c =
     let kept = room-kept 8 (s .args .sizes) (omega arith) (s .pre .0) (laid .last .1 .1 .1 .0) _ long in
     let others = c .before .before .before .before .before .before .outside .ensures in
     let fixed = c .before .before .before .before .before .gather .ensures .0 in
-    blocks-both (s .args .sizes) (s .args .pair .mixed) (s .args .pair .fixed) _ _ (s .pre .1 .0) others fixed (s .args .table .now) _ _ _ kept (laid .ensures)
+    blocks-both (s .args .sizes) (s .args .pair .mixed) _ _ _ (s .pre .1 .0) others fixed (s .args .table .now) _ _ _ kept (laid .ensures)
     (c .before .before .expand-lanes .ensures)
 
 pub expand-blocks-spec : {M : Type 1} → statement M
