@@ -1,10 +1,10 @@
 -- Gathering in words: for each r below the number of inputs of M there is one r-th input (`nth-input`, `nth-input-only`), `gather` closes up the
--- bits at these (`gather-closed-up`), and no other number is closed up of them (`closed-up-only`). The inputs outside M are those of n that
--- are not in M (`outside-bit`). So block and place split a number, and joined they give it back (`split-is`); and whichever block and place are
--- joined, splitting gives them back (`split-join`).
+-- bits at these (`gather-closed-up`), and no other number is closed up of them (`closed-up-only`); `spread` opens them out again
+-- (`spread-opened-out`, `opened-out-is`). The inputs outside M are those of n that are not in M (`outside-bit`). So block and place split a
+-- number, and joined they give it back (`split-is`); and whichever block and place are joined, splitting gives them back (`split-join`).
 use mathlib.Core.Path.{_≡_, refl, sym, ap, _∙_}
 use Prim.Native.Nat.{ℕ, zero, suc, _+_, _-_, _*_, _/_, _%_, _^_, _≤_, _<_}
-use native.Mathlib.Nat.{zero-add}
+use native.Mathlib.Nat.{zero-add, zero-mul, one-mul}
 use native.Mathlib.Decide.{decLt}
 use native.Mathlib.Omega.{arith}
 use native.Mathlib.Numerals.{one-add}
@@ -13,11 +13,11 @@ use lib.Count.{onesIn}
 use Rattle.numbers.specs.Bits.{bit}
 use Rattle.numbers.proofs.Xor.{low-lt}
 use Rattle.numbers.proofs.Bits.{bit-zero, bit-suc, bit-lt, bit-past, bits-same}
-use Rattle.expansions.specs.Split.{putDigit, gather, outside, join}
+use Rattle.expansions.specs.Split.{putDigit, lowDigit, dropDigit, gather, spread, outside, join}
 use Rattle.expansions.specs.Members.{block, place}
-use Rattle.expansions.specs.ClosedUp.{NthInput, ClosedUp, IsSplit}
-use Rattle.expansions.proofs.Split.{gather-lt, gather-join, gather-outside-join, join-gather}
-use Rattle.expansions.proofs.Masks.{ones-next}
+use Rattle.expansions.specs.ClosedUp.{NthInput, ClosedUp, OpenedOut, IsSplit}
+use Rattle.expansions.proofs.Split.{lowDigit-lt, gather-lt, spread-lt, gather-join, gather-outside-join, join-gather}
+use Rattle.expansions.proofs.Masks.{ones-next, dropDigit-bit, lowDigit-first}
 
 -- ---- the inputs of a mask, counted
 
@@ -116,6 +116,44 @@ closed-up-only n M x y z a b = bits-same y z (λ r. go r (decLt r (onesIn n M)))
     go : (r : ℕ) → Dec (r < onesIn n M) → bit r y ≡ bit r z
     go r (no l) = a .none r (omega arith) ∙ sym (b .none r (omega arith))
     go r (yes l) = let i = nth-input n M r l in a .each r (i .input) (i .is) ∙ sym (b .each r (i .input) (i .is))
+
+-- ---- opened out
+
+-- an input, by whether it is in M and the number of inputs of M below it
+spread-bit : (n M y i : ℕ) → i < n → bit i (spread n M y) ≡ bit i M * bit (onesIn i M) y
+unfolding spread
+spread-bit zero M y i h = absurd (omega arith)
+spread-bit (suc n) M y zero h =
+    let rest = spread n (M / 2) (dropDigit (M % 2) y) in
+    let low : (rest * 2 + lowDigit (M % 2) y) % 2 ≡ lowDigit (M % 2) y = omega (arith, lowDigit-lt (M % 2) y) in
+    rw (ones-none M, bit-zero M, bit-zero y) (bit-zero (rest * 2 + lowDigit (M % 2) y) ∙ low ∙ lowDigit-first (M % 2) y (low-lt M))
+spread-bit (suc n) M y (suc i) h =
+    let rest = spread n (M / 2) (dropDigit (M % 2) y) in
+    rw (ones-first i M, bit-suc i M)
+    (bit-suc i (rest * 2 + lowDigit (M % 2) y) ∙ ap (bit i) (digits-div rest (lowDigit-lt (M % 2) y))
+    ∙ spread-bit n (M / 2) (dropDigit (M % 2) y) i (omega arith)
+    ∙ ap (λ (b : ℕ). bit i (M / 2) * b) (dropDigit-bit (M % 2) (onesIn i (M / 2)) y (low-lt M)))
+
+pub spread-opened-out : (n M y : ℕ) → OpenedOut n M y (spread n M y)
+spread-opened-out n M y =
+    record {
+      each = λ r i h. spread-bit n M y i (h .within) ∙ rw (h .inside, h .below) (one-mul (bit r y));
+      others = λ i h e. spread-bit n M y i h ∙ rw e (zero-mul (bit (onesIn i M) y));
+      below = spread-lt n M y;
+    }
+
+pub opened-out-is : (n M y x : ℕ) → OpenedOut n M y x → x ≡ spread n M y
+opened-out-is n M y x a = bits-same x (spread n M y) (λ i. go i (decLt i n) (bit i M) refl)
+  where
+    b : OpenedOut n M y (spread n M y)
+    b = spread-opened-out n M y
+
+    go : (i : ℕ) → Dec (i < n) → (m : ℕ) → bit i M ≡ m → bit i x ≡ bit i (spread n M y)
+    go i (no l) m e = bit-past n i x (a .below) (omega arith) ∙ sym (bit-past n i (spread n M y) (b .below) (omega arith))
+    go i (yes l) zero e = a .others i l e ∙ sym (b .others i l e)
+    go i (yes l) (suc zero) e =
+        let h : NthInput n M (onesIn i M) i = record { within = l; inside = e; below = refl } in a .each (onesIn i M) i h ∙ sym (b .each (onesIn i M) i h)
+    go i (yes l) (suc (suc m)) e = absurd (omega (arith, bit-lt i M))
 
 -- ---- block and place
 

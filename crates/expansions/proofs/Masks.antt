@@ -95,13 +95,13 @@ gather-next (suc s) M x =
     )
     (putDigit-add (M % 2) _ _ (x % 2) (low-lt M))
 
-dropDigit-bit : (m o y : ℕ) → m < 2 → bit o (dropDigit m y) ≡ bit (m + o) y
+pub dropDigit-bit : (m o y : ℕ) → m < 2 → bit o (dropDigit m y) ≡ bit (m + o) y
 unfolding dropDigit
 dropDigit-bit zero o y h = rw (zero-add o)
 dropDigit-bit (suc zero) o y h = rw (one-add o) (sym (bit-suc o y))
 dropDigit-bit (suc (suc m)) o y h = absurd (omega arith)
 
-lowDigit-first : (m y : ℕ) → m < 2 → lowDigit m y ≡ m * (y % 2)
+pub lowDigit-first : (m y : ℕ) → m < 2 → lowDigit m y ≡ m * (y % 2)
 unfolding lowDigit
 lowDigit-first zero y h = omega arith
 lowDigit-first (suc zero) y h = omega arith

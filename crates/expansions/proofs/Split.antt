@@ -14,7 +14,7 @@ use Rattle.expansions.specs.Split.{putDigit, lowDigit, dropDigit, gather
 
 -- ---- one digit: a mask's digit is m, and the other mask's is 1 - m
 
-lowDigit-lt : (m y : ℕ) → lowDigit m y < 2
+pub lowDigit-lt : (m y : ℕ) → lowDigit m y < 2
 unfolding lowDigit
 lowDigit-lt zero y = omega arith
 lowDigit-lt (suc m) y = omega arith

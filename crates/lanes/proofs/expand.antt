@@ -1,4 +1,5 @@
 pub mod Held
+pub mod LaidOut
 pub mod Laying
 pub mod Room
 pub mod Turning

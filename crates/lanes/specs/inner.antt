@@ -1,3 +1,4 @@
+pub mod LaidOut
 pub mod Lanes
 pub mod Sizes
 pub mod Terms

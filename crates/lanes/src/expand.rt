@@ -9,7 +9,8 @@ ghost use Rattle.numbers.specs.Bits.{bit};
 ghost use Rattle.numbers.specs.Bytes.{at, tabulate};
 ghost use Rattle.numbers.specs.Words.{word, byte};
 ghost use Rattle.expansions.specs.Split as Split;
-ghost use Rattle.lanes.specs.inner.Lanes.{laneByte, placesByte, lanesUnder, blockLanes};
+ghost use Rattle.lanes.specs.inner.LaidOut.{LaidOut, BlockFunctions};
+ghost use Rattle.lanes.specs.inner.Lanes.{laneByte, placesByte, lanesUnder, blockLanes, NextLanes};
 ghost use Rattle.lanes.specs.inner.Sizes.{Limits, MixedSet};
 use crate::sizes::Pair;
 use crate::sizes::Sizes;
@@ -88,6 +89,7 @@ fn lay_out(sizes: Sizes, mixed: usize, table: &[u8], lanes: &mut [u8])
     requires { ⌜ MixedSet sizes mixed ⌝ }
     requires { ⌜ (length (now table) ≡ 2 ^ sizes .n) × (length (now lanes) ≡ 8 * 2 ^ (sizes .n - sizes .k)) ⌝ }
     ensures { λ _. ⌜ now (lanes .exit) ≡ tabulate (8 * 2 ^ (sizes .n - sizes .k)) (λ x. placesByte (sizes .n) (sizes .k) mixed (at (now (table .entry))) (x % 8) (x / 8)) ⌝ }
+    ensures places { λ _. ⌜ LaidOut (sizes .n) (sizes .k) mixed (now (table .entry)) (now (lanes .exit)) ⌝ }
 {
     let mut points = [0u8; Sizes::PLACES];
     let mut offsets = [0u8; 8];
@@ -111,6 +113,7 @@ pub fn expand_blocks(sizes: Sizes, pair: Pair, table: &[u8], lanes: &mut [u8])
     requires { ⌜ MixedSet sizes (pair .mixed) ⌝ }
     requires { ⌜ (length (now table) ≡ 2 ^ sizes .n) × (length (now lanes) ≡ 8 * 2 ^ (sizes .n - sizes .k)) ⌝ }
     ensures { λ _. ⌜ now (lanes .exit) ≡ blockLanes (sizes .n) (sizes .k) (pair .mixed) (Split.gather (sizes .n) (Split.outside (sizes .n) (pair .mixed)) (pair .fixed)) (at (now (table .entry))) ⌝ }
+    ensures functions { λ _. ⌜ BlockFunctions (sizes .n) (sizes .k) (pair .mixed) (pair .fixed) (now (table .entry)) (now (lanes .exit)) ⌝ }
 {
     let r = sizes.n - sizes.k;
     let mut laid = [0u8; Sizes::ROOM];
@@ -121,10 +124,11 @@ pub fn expand_blocks(sizes: Sizes, pair: Pair, table: &[u8], lanes: &mut [u8])
 }
 
 // From the coefficients under w to those under w + 1, where that is a polarity of r inputs: the inputs whose bits change are turned over,
-// two of them on the average.
+// two of them on the average. After the last polarity the bytes stay as they were.
 pub fn next_polarity(r: usize, w: usize, lanes: &mut [u8])
     requires { ⌜ (r ≤ 8) × (w < 2 ^ r) × (length (now lanes) ≡ 8 * 2 ^ r) ⌝ }
     ensures { λ _. ⌜ ((f : ℕ → ℕ → ℕ) → suc w < 2 ^ r → now (lanes .entry) ≡ lanesUnder r w f → now (lanes .exit) ≡ lanesUnder r (suc w) f) ⌝ }
+    ensures every { λ _. ⌜ NextLanes r w (now (lanes .entry)) (now (lanes .exit)) ⌝ }
 {
     algebra::transform::change_polarity(3, r, w, w + 1, lanes);
 }

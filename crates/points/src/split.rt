@@ -3,7 +3,7 @@
 ghost use mathlib.Core.Path.{_≡_};
 ghost use Prim.Native.Nat.{_≤_, _<_, _^_};
 ghost use lib.Count.{onesIn};
-ghost use Rattle.expansions.specs.ClosedUp.{IsSplit};
+ghost use Rattle.expansions.specs.ClosedUp.{ClosedUp, OpenedOut, IsSplit};
 ghost use Rattle.expansions.specs.Members.{block, place};
 ghost use Rattle.expansions.specs.Split as Split;
 
@@ -58,6 +58,7 @@ pub fn split(n: usize, mixed: usize, x: usize) -> Parts
 pub fn gather(n: usize, mask: usize, x: usize) -> usize
     requires { ⌜ n ≤ 8 ⌝ }
     ensures { λ r. ⌜ r ≡ Split.gather n mask x ⌝ }
+    ensures bits { λ r. ⌜ ClosedUp n mask x r ⌝ }
 {
     let parts = split(n, mask, x);
     parts.place
@@ -67,6 +68,7 @@ pub fn gather(n: usize, mask: usize, x: usize) -> usize
 pub fn spread(n: usize, mask: usize, y: usize) -> usize
     requires { ⌜ n ≤ 8 ⌝ }
     ensures { λ r. ⌜ r ≡ Split.spread n mask y ⌝ }
+    ensures bits { λ r. ⌜ OpenedOut n mask y r ⌝ }
 {
     let mut x: usize = 0;
     let mut used: usize = 0;

@@ -6,9 +6,10 @@ use Prim.Native.Nat.{ℕ, _+_, _-_, _*_, _/_, _%_, _^_, _<_}
 use native.Mathlib.Omega.{arith}
 use lib.Arith.{digits-div, digits-mod}
 use lib.Count.{onesIn}
+use lib.ListN.{length}
 use Rattle.numbers.specs.Bits.{bit}
 use Rattle.numbers.specs.Bytes.{at}
-use Rattle.numbers.proofs.Bytes.{at-tabulate}
+use Rattle.numbers.proofs.Bytes.{length-tabulate, at-tabulate}
 use Rattle.numbers.proofs.Pack.{pack-ext}
 use Rattle.algebra.specs.Coefficients.{coefficient}
 use Rattle.expansions.specs.Answers.{blockFunction}
@@ -30,6 +31,10 @@ unfolding lanesUnder
 lanes-at r w f o q ho hq =
     at-tabulate (8 * 2 ^ r) (λ x. coefficient r w (f (x % 8)) (x / 8)) (q * 8 + o) (omega arith)
     ∙ ap₂ (λ (a b : ℕ). coefficient r w (f a) b) (digits-mod q ho) (digits-div q ho)
+
+pub lanes-long : (r w : ℕ) (f : ℕ → ℕ → ℕ) → length (lanesUnder r w f) ≡ 8 * 2 ^ r
+unfolding lanesUnder
+lanes-long r w f = length-tabulate (8 * 2 ^ r) _
 
 -- the fixed polarity, at the inputs outside the mixed set
 pub fixed-lt : (n k M i : ℕ) → onesIn n M ≡ k → gather n (outside n M) i < 2 ^ (n - k)

@@ -1,5 +1,5 @@
 -- The layout as code fills it, block by block (`laid-more`), and what it comes to (`laid-out`): byte 8 * q + o has output o at the places of
--- block q. Each output by itself expanded over the inputs outside M, it leaves the block functions (`blocks-expanded`).
+-- block q. Each output by itself expanded over the inputs outside M, it leaves the block functions (`blocks-expanded`, in words `blocks-both`).
 use mathlib.Core.Path.{_≡_, sym, ap, ap₂, _∙_}
 use mathlib.Core.List.{List, _++_}
 use Prim.Native.Nat.{ℕ, _+_, _-_, _*_, _/_, _%_, _^_, _≤_, _<_}
@@ -22,10 +22,12 @@ use Rattle.algebra.proofs.Coefficients.{coefficient-ext}
 use Rattle.expansions.specs.Split.{gather, spread, outside, join}
 use Rattle.expansions.specs.inner.Planes.{plane}
 use Rattle.expansions.proofs.Split.{spread-lt, spread-mod, join-lt}
+use Rattle.lanes.specs.inner.LaidOut.{LaidOut, BlockFunctions}
 use Rattle.lanes.specs.inner.Lanes.{laneByte, placesByte, lanesUnder, blockLanes}
 use Rattle.lanes.specs.inner.Sizes.{Limits, MixedSet}
 use Rattle.lanes.specs.declared.sizes.Sizes.{Sizes}
 use Rattle.lanes.proofs.expand.Held.{fixed-lt}
+use Rattle.lanes.proofs.expand.LaidOut.{blocks-in-words}
 use Rattle.lanes.proofs.expand.Room.{room-lent, room-kept}
 
 -- a point of at most eight inputs fits a byte
@@ -115,3 +117,13 @@ module _ (s : Sizes) (M i w mask : ℕ) (set : MixedSet s M) (others : mask ≡ 
       laid-at o q ho hq =
           ap (λ (xs : List ℕ). at xs (q * 8 + o)) layout
           ∙ at-tabulate (8 * 2 ^ r) (λ x. bytes (x % 8) (x / 8)) (q * 8 + o) (omega arith) ∙ ap₂ bytes (digits-mod q ho) (digits-div q ho)
+
+  -- and in words; `laid` is the part of an array that holds xs
+  pub blocks-both : (table xs laid lanes : List ℕ) → laid ≡ xs
+      → (xs ≡ tabulate (8 * 2 ^ (s .n - s .k)) (λ x. placesByte (s .n) (s .k) M (at table) (x % 8) (x / 8))) × LaidOut (s .n) (s .k) M table xs
+      → lanes ≡ lanesUnder (s .n - s .k) w (λ o q. at laid (q * 8 + o))
+      → (lanes ≡ blockLanes (s .n) (s .k) M (gather (s .n) (outside (s .n) M) i) (at table)) × BlockFunctions (s .n) (s .k) M i table lanes
+  blocks-both table xs laid lanes kept layout held = (
+    held ∙ blocks-expanded table laid (kept ∙ layout .0),
+    blocks-in-words (s .n) (s .k) M i w table laid lanes (rw kept (layout .1)) closed-up held,
+  )

@@ -1,10 +1,12 @@
 -- Eight functions side by side: byte 8 * q + o is function o at q. The block functions of all outputs are held so. Cited by the contracts of this
 -- crate's functions; the contract of no call rests on this file.
+use mathlib.Core.Path.{_≡_}
 use mathlib.Core.List.{List}
-use Prim.Native.Nat.{ℕ, _+_, _-_, _*_, _/_, _%_, _^_}
+use Prim.Native.Nat.{ℕ, suc, _+_, _-_, _*_, _/_, _%_, _^_, _<_}
 use Rattle.numbers.specs.Bits.{bit, pack}
 use Rattle.numbers.specs.Bytes.{at, tabulate}
 use Rattle.algebra.specs.Coefficients.{coefficient}
+use Rattle.algebra.specs.Terms.{value}
 use Rattle.expansions.specs.Split.{join}
 use Rattle.expansions.specs.inner.Planes.{plane}
 
@@ -19,6 +21,12 @@ placesByte n k M f o q = plane k (λ s. f (join n M q s)) o
 -- the coefficients under w of eight functions of r inputs, side by side
 unfoldable pub lanesUnder : ℕ → ℕ → (ℕ → ℕ → ℕ) → List ℕ
 lanesUnder r w f = tabulate (8 * 2 ^ r) (λ x. coefficient r w (f (x % 8)) (x / 8))
+
+-- From the polarity w to w + 1: whatever bytes stood there, they are the coefficients under w of the eight functions whose values they give, and now
+-- stand those under w + 1. After the last polarity there is none, and the bytes stay as they were
+pub record NextLanes (r w : ℕ) (before after : List ℕ) : Type 0 where
+  pub next : suc w < 2 ^ r → after ≡ lanesUnder r (suc w) (λ o. value r (λ t. w) (λ q. at before (8 * q + o)))
+  pub last : suc w ≡ 2 ^ r → after ≡ before
 
 -- the functions of the blocks of M, under the polarity w of the inputs outside M, closed up
 abbrev pub blockLanes : (n k M w : ℕ) → (ℕ → ℕ) → List ℕ

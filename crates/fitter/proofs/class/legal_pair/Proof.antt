@@ -53,7 +53,7 @@ returns-4 c =
       lt-ltb _ _ (fixed-lt f),
       ← c .before .before .before .ones-in .ensures,
       eq-eqb _ _ (c .before .if3 .left),
-      ← c .gather .ensures,
+      ← c .gather .ensures .0,
     )
 
 pub legal-pair-spec : {M : Type 1} → statement M

@@ -4,7 +4,7 @@ use mathlib.Core.Path.{ap, _∙_}
 use native.Mathlib.Omega.{arith}
 use lib.ListN.{length}
 use Rattle.numbers.proofs.Bytes.{length-tabulate}
-use Rattle.lanes.proofs.expand.Laying.{closed-lt, blocks-expanded}
+use Rattle.lanes.proofs.expand.Laying.{closed-lt, blocks-both}
 use Rattle.lanes.proofs.expand.Room.{blocks-le, room-fits, room-counted, room-lent, room-kept, room-fits-again, room-counted-again}
 use Rattle.lanes.proofs.expand.expand_blocks.Statement.{statement}
 use Rattle.lanes.proofs.expand.expand_blocks.Tie as tie
@@ -35,21 +35,21 @@ array-share-prefix-laid : tie.Need-array-share-prefix-laid
 array-share-prefix-laid c =
     let s = c .before .before .before .before .before .before .before .before in
     let laid = c .before .before .before .lay-out in
-    room-fits-again 8 (s .args .sizes) (omega arith) (s .pre .0) (laid .last .1 .1 .1 .0) _ (ap length (laid .ensures) ∙ length-tabulate _ _)
+    room-fits-again 8 (s .args .sizes) (omega arith) (s .pre .0) (laid .last .1 .1 .1 .0) _ (ap length (laid .ensures .0) ∙ length-tabulate _ _)
 
 slice-aggregate-expand-lanes : tie.Need-slice-aggregate-expand-lanes
 slice-aggregate-expand-lanes c =
     let s = c .before .before .before .before .before .before .before .before .before in
     let laid = c .before .before .before .before .lay-out in
-    room-counted-again 8 (s .args .sizes) (omega arith) (s .pre .0) (laid .last .1 .1 .1 .0) _ (ap length (laid .ensures) ∙ length-tabulate _ _)
+    room-counted-again 8 (s .args .sizes) (omega arith) (s .pre .0) (laid .last .1 .1 .1 .0) _ (ap length (laid .ensures .0) ∙ length-tabulate _ _)
 
 expand-lanes-requires : tie.Need-expand-lanes-requires
 expand-lanes-requires c κs =
     let s = c .before .before .before .before .before .before .before .before .before .before in
     let laid = c .before .before .before .before .before .lay-out in
-    let long = ap length (laid .ensures) ∙ length-tabulate _ _ in (
+    let long = ap length (laid .ensures .0) ∙ length-tabulate _ _ in (
       blocks-le (s .args .sizes) (s .pre .0),
-      closed-lt (s .args .sizes) (s .args .pair .mixed) _ _ _ (s .pre .1 .0) (c .before .before .before .outside .ensures) (c .before .before .gather .ensures),
+      closed-lt (s .args .sizes) (s .args .pair .mixed) _ _ _ (s .pre .1 .0) (c .before .before .before .outside .ensures) (c .before .before .gather .ensures .0),
       ap length (room-kept 8 (s .args .sizes) (omega arith) (s .pre .0) (laid .last .1 .1 .1 .0) _ long) ∙ long,
       s .pre .1 .1 .1,
     )
@@ -61,12 +61,12 @@ returns : tie.Need-returns
 returns c =
     let s = c .before .before .before .before .before .before .before .before .before .before .before .before .before in
     let laid = c .before .before .before .before .before .before .before .before .lay-out in
-    let long = ap length (laid .ensures) ∙ length-tabulate _ _ in
+    let long = ap length (laid .ensures .0) ∙ length-tabulate _ _ in
     let kept = room-kept 8 (s .args .sizes) (omega arith) (s .pre .0) (laid .last .1 .1 .1 .0) _ long in
     let others = c .before .before .before .before .before .before .outside .ensures in
-    let fixed = c .before .before .before .before .before .gather .ensures in
-    c .before .before .expand-lanes .ensures
-    ∙ blocks-expanded (s .args .sizes) (s .args .pair .mixed) (s .args .pair .fixed) _ _ (s .pre .1 .0) others fixed (s .args .table .now) _ (kept ∙ laid .ensures)
+    let fixed = c .before .before .before .before .before .gather .ensures .0 in
+    blocks-both (s .args .sizes) (s .args .pair .mixed) _ _ _ (s .pre .1 .0) others fixed (s .args .table .now) _ _ _ kept (laid .ensures)
+    (c .before .before .expand-lanes .ensures)
 
 pub expand-blocks-spec : {M : Type 1} → statement M
 expand-blocks-spec =

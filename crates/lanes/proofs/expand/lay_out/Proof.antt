@@ -1,13 +1,26 @@
 -- `lay_out` meets its contract: the lent part of `points` holds the first point of each block, and `offsets` the offset of each place.
 use borrow.Author.Needs.{needs}
-use mathlib.Core.Path.{_∙_, sym, ap}
-use Prim.Native.Nat.{ℕ, _*_}
+use mathlib.Core.Path.{_≡_, _∙_, sym, ap}
+use mathlib.Core.List.{List}
+use Prim.Native.Nat.{ℕ, _-_, _*_, _/_, _%_, _^_}
 use native.Mathlib.Omega.{arith}
+use Rattle.numbers.specs.Bytes.{at, tabulate}
 use Rattle.expansions.proofs.Split.{outside-lt}
+use Rattle.lanes.specs.inner.LaidOut.{LaidOut}
+use Rattle.lanes.specs.inner.Lanes.{placesByte}
+use Rattle.lanes.specs.inner.Sizes.{Limits, MixedSet}
+use Rattle.lanes.specs.declared.sizes.Sizes.{Sizes}
+use Rattle.lanes.proofs.expand.LaidOut.{placed-laid-out}
 use Rattle.lanes.proofs.expand.Laying.{opened-long, opened-kept, points-long, points-room, laid-out}
-use Rattle.lanes.proofs.expand.Room.{room-fits, room-counted, room-fits-again, room-counted-again}
+use Rattle.lanes.proofs.expand.Room.{few, room-fits, room-counted, room-fits-again, room-counted-again}
 use Rattle.lanes.proofs.expand.lay_out.Statement.{statement}
 use Rattle.lanes.proofs.expand.lay_out.Tie as tie
+
+-- the words follow from the equation
+in-words : (s : Sizes) (M : ℕ) (table lanes : List ℕ) → Limits s → MixedSet s M
+    → lanes ≡ tabulate (8 * 2 ^ (s .n - s .k)) (λ x. placesByte (s .n) (s .k) M (at table) (x % 8) (x / 8))
+    → (lanes ≡ tabulate (8 * 2 ^ (s .n - s .k)) (λ x. placesByte (s .n) (s .k) M (at table) (x % 8) (x / 8))) × LaidOut (s .n) (s .k) M table lanes
+in-words s M table lanes limits set e = (e, placed-laid-out (s .n) (s .k) M table (set .size) (few s limits) lanes e)
 
 sub-count : tie.Need-sub-count
 sub-count c = search needs
@@ -70,8 +83,9 @@ returns c =
     let others = c .before .before .before .before .before .before .before .before .before .before .before .before .outside .ensures in
     let first = opened-kept (s .args .sizes) (s .args .mixed) _ (o .last .1 .1 .0) (s .pre .0) others (o .ensures) _ in
     let places = c .before .before .before .before .before .before .before .open-out2 .ensures in
-    c .before .before .fill-lanes .ensures
-    ∙ laid-out (s .args .sizes) (s .args .mixed) _ _ (s .pre .1 .0) first places (s .args .table .now) _ (s .pre .1 .1 .1)
+    in-words (s .args .sizes) (s .args .mixed) (s .args .table .now) _ (s .pre .0) (s .pre .1 .0)
+    (c .before .before .fill-lanes .ensures
+    ∙ laid-out (s .args .sizes) (s .args .mixed) _ _ (s .pre .1 .0) first places (s .args .table .now) _ (s .pre .1 .1 .1))
 
 pub lay-out-spec : {M : Type 1} → statement M
 lay-out-spec =

@@ -1,7 +1,6 @@
 -- `next_polarity` meets its contract: the lanes go from the polarity w to w + 1.
 use borrow.Author.Needs.{needs}
-use mathlib.Core.Path.{_∙_}
-use Rattle.lanes.proofs.expand.Turning.{lanes-next}
+use Rattle.lanes.proofs.expand.Turning.{lanes-turned}
 use Rattle.lanes.proofs.expand.next_polarity.Statement.{statement}
 use Rattle.lanes.proofs.expand.next_polarity.Tie as tie
 
@@ -15,9 +14,9 @@ same-length : tie.Need-same-length
 same-length c = search needs
 
 returns : tie.Need-returns
-returns c f next e =
+returns c =
     let s = c .before .before .before .before .before in
-    c .before .before .change-polarity .ensures ∙ lanes-next (s .args .r) (s .args .w) f (s .args .lanes .now) (s .pre .0) next e
+    lanes-turned (s .args .r) (s .args .w) (s .args .lanes .now) _ (s .pre .0) (s .pre .2) (c .before .before .change-polarity .ensures)
 
 pub next-polarity-spec : {M : Type 1} → statement M
 next-polarity-spec = tie.close (tie.spec add-change-polarity change-polarity-requires same-length returns)

@@ -42,7 +42,7 @@ loop-again c =
     let s = c .before .before .before .before in
     let l = c .before .before .loop in (
       filled-more _ _ _ _ _ (c .before .loop-test .taken) (opened-byte (s .args .n) (s .args .mask) (l .y) (l .point) (s .pre .0) (l .inv .1)) (l .inv .0),
-      rw (add-one (l .y)) (c .next-point .ensures (l .y) (l .inv .1)),
+      rw (add-one (l .y)) (c .next-point .ensures .0 (l .y) (l .inv .1)),
     )
 
 same-length : tie.Need-same-length Inv-loop μ-loop

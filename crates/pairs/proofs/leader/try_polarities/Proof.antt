@@ -30,7 +30,7 @@ loop-holds c =
     let s = c .before .before .before .before .before .before .before in
     let p = s .pre .1 in
     let e = c .before .before .before .expand-blocks in
-    trying-none _ _ _ _ _ _ (one-shifted _ (omega (arith, blocks-le (s .args .sizes) (p .0)))) (e .kept .1 .1 .1 .0 ∙ p .1 .1 .0 .1) (e .ensures) (p .1 .1 .1)
+    trying-none _ _ _ _ _ _ (one-shifted _ (omega (arith, blocks-le (s .args .sizes) (p .0)))) (e .kept .1 .1 .1 .0 ∙ p .1 .1 .0 .1) (e .ensures .0) (p .1 .1 .1)
 
 try-polarity-requires : tie.Need-try-polarity-requires Inv-loop μ-loop
 try-polarity-requires c κs =
@@ -61,7 +61,7 @@ loop-again c =
     let less = c .before .before .before .before .before .before .loop-test .taken in
     let next = c .before .before .next-polarity in
     trying-next (s .args .sizes) (s .args .mixed) (s .args .table .now) _ _ _ _ (p .1 .1 .0 .0) (l .inv) (p .0) (p .1 .0) less _ _
-    (c .before .before .before .before .try-polarity .ensures) (next .kept .1 .1 .0) (next .ensures)
+    (c .before .before .before .before .try-polarity .ensures) (next .kept .1 .1 .0) (next .ensures .0)
 
 same-length : tie.Need-same-length Inv-loop μ-loop
 same-length c = search needs

@@ -24,7 +24,7 @@ shl-t10 c = search needs
 add-t11 : tie.Need-add-t11
 add-t11 c =
     let s = c .before .before .before .before .before .before .before in
-    let i = c .before .spread .ensures in
+    let i = c .before .spread .ensures .0 in
     let few = s .pre .1 .0 .inputs in
     let mask = s .pre .1 .1 .0 in
     omega (arith, pair-shifted (s .args .sizes .n) (s .args .mixed) few mask, pair-lt _ _ (c .before .spread .result) few mask (rw i (spread-lt _ _ _)))
@@ -35,7 +35,7 @@ returns c =
     let o = c .before .before .outside .ensures in
     led-take _ _ _ (c .before .before .before .before .before .pair-charge .ensures) _ _
     (ap₂ _+_ (pair-shifted (s .args .sizes .n) (s .args .mixed) (s .pre .1 .0 .inputs) (s .pre .1 .1 .0))
-    (c .before .spread .ensures ∙ ap (λ (m : ℕ). spread (s .args .sizes .n) m (s .args .w)) o)) (c .before .before .before .if1 .taken)
+    (c .before .spread .ensures .0 ∙ ap (λ (m : ℕ). spread (s .args .sizes .n) m (s .args .w)) o)) (c .before .before .before .if1 .taken)
 
 returns-2 : tie.Need-returns-2
 returns-2 c = led-keep _ _ _ (c .before .before .pair-charge .ensures) _ (c .if1 .left)

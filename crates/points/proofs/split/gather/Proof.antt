@@ -7,7 +7,7 @@ split-requires : tie.Need-split-requires
 split-requires c κs = search needs
 
 returns : tie.Need-returns
-returns c = c .split .ensures .1
+returns c = search needs
 
 pub gather-spec : {M : Type 1} → statement M
 gather-spec = tie.close (tie.spec split-requires returns)

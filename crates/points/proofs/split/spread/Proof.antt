@@ -2,7 +2,9 @@
 use borrow.Author.Needs.{needs}
 use mathlib.Core.Path.{_≡_, refl, _∙_, ap}
 use Prim.Native.Nat.{ℕ, _-_}
+use Rattle.expansions.specs.ClosedUp.{OpenedOut}
 use Rattle.expansions.specs.Split.{spread}
+use Rattle.expansions.proofs.ClosedUp.{spread-opened-out}
 use Rattle.points.proofs.split.Walks.{Passed, passed-none, passed-more, passed-shift, passed-fits, passed-all, digit-in, spread-digit}
 use Rattle.points.proofs.split.spread.Statement.{statement}
 use Rattle.points.proofs.split.spread.Tie as tie
@@ -12,6 +14,10 @@ Inv-loop n mask y x₀ used₀ b₀ x used b = Passed n mask used b × (x ≡ sp
 
 abbrev μ-loop : tie.MeasureT-loop
 μ-loop n mask y x₀ used₀ b₀ x used b = n - b
+
+-- the words follow from the equation
+opened : (n M y x : ℕ) → x ≡ spread n M y → (x ≡ spread n M y) × OpenedOut n M y x
+opened n M y x e = (e, rw e (spread-opened-out n M y))
 
 loop-holds : tie.Need-loop-holds Inv-loop μ-loop
 unfolding spread
@@ -47,7 +53,7 @@ returns : tie.Need-returns Inv-loop μ-loop
 returns c =
     let l = c .before .loop in
     let a = c .before .before .args in
-    l .inv .1 ∙ ap (λ (b : ℕ). spread b (a .mask) (a .y)) (passed-all _ _ _ _ (c .loop-test .left) (l .inv .0))
+    opened (a .n) (a .mask) (a .y) _ (l .inv .1 ∙ ap (λ (b : ℕ). spread b (a .mask) (a .y)) (passed-all _ _ _ _ (c .loop-test .left) (l .inv .0)))
 
 pub spread-spec : {M : Type 1} → statement M
 spread-spec =

@@ -94,7 +94,7 @@ coefficients-requires c κs =
     let s = start e in
     let p = s .pre .1 in
     let kept = room-kept 8 _ (omega arith) (p .0) (lanes e) _ (long e) in
-    let chosen = blocks-lt _ _ _ _ _ (p .0) (p .1 .0) (p .1 .1) (kept ∙ e .expand-blocks .ensures) (c .before .before .block-choices .ensures) in
+    let chosen = blocks-lt _ _ _ _ _ (p .0) (p .1 .0) (p .1 .1) (kept ∙ e .expand-blocks .ensures .0) (c .before .before .block-choices .ensures) in
     (s .pre .0, (p .0, ((set s, ap length kept ∙ long e), chosen)))
 
 empty-requires : tie.Need-empty-requires
@@ -117,7 +117,7 @@ returns c =
     let p = s .pre .1 in
     let kept = room-kept 8 _ (omega arith) (p .0) (lanes e) _ (long e) in
     let choices = d .before .before .before .block-choices .ensures in
-    record-answer _ _ _ _ _ (p .0) (p .1 .0) (p .1 .1) (kept ∙ e .expand-blocks .ensures) choices _ (d .coefficients .ensures) _ _ (c .before .counts-in .ensures)
+    record-answer _ _ _ _ _ (p .0) (p .1 .0) (p .1 .1) (kept ∙ e .expand-blocks .ensures .0) choices _ (d .coefficients .ensures) _ _ (c .before .counts-in .ensures)
 
 pub expansion-of-spec : {M : Type 1} → statement M
 expansion-of-spec =

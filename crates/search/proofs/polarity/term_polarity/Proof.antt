@@ -67,7 +67,7 @@ add-result c =
     let a = c .before .before .before .before .before .before .before .before .args in
     let few = c .before .before .before .before .before .before .before .if1 .left in
     let size-le : 2 ^ a .n ≤ 256 = pow-mono few in
-    omega (arith, fixed-lt (c .before .before .before .before .before), c .spread .ensures, spread-small (a .n) (a .mixed) (c .before .place-polarity .result) few)
+    omega (arith, fixed-lt (c .before .before .before .before .before), c .spread .ensures .0, spread-small (a .n) (a .mixed) (c .before .place-polarity .result) few)
 
 returns-4 : tie.Need-returns-4
 unfolding termPolarity polarity
@@ -77,7 +77,7 @@ returns-4 c =
     let split = c .before .before .before .before .split .ensures in
     rw (le-leb _ 8 (past .before .before .if1 .left), lt-ltb _ _ (mixed-lt (past .before)), lt-ltb _ _ (fixed-lt past))
     (ap (λ (x : ℕ). a .fixed + x)
-    (c .spread .ensures
+    (c .spread .ensures .0
     ∙ ap (spread (a .n) (a .mixed))
     (c .before .place-polarity .ensures
     ∙ ap₂ (placePolarity (a .class) (a .k)) (c .before .before .wide .ensures .0 ∙ ap (at (a .blocks .now)) (split .0)) (split .1))))

@@ -52,7 +52,7 @@ shown-le c =
     let else = c .before .before .before .before .before .before in
     let s = else .before .before .before in
     let most : 2 ^ s .args .k ≤ 8 = pow-mono {i = s .args .k} {j = 3} (s .pre .1) in
-    omega (arith, c .gather .ensures, place-lt (s .args .n) (s .args .k) (s .args .mixed) (size-is else) (c .before .wide .result))
+    omega (arith, c .gather .ensures .0, place-lt (s .args .n) (s .args .k) (s .args .mixed) (size-is else) (c .before .wide .result))
 
 shl-size : tie.Need-shl-size Inv-loop μ-loop
 shl-size c = search needs
@@ -128,7 +128,7 @@ loop-again c =
     let l = i .before .loop in
     let a = i .before .before .before .before .before .args in
     let shown : c .before .gather .result ≡ gather (a .n) (a .mixed) (at (a .complements .now) (l .t)) =
-    c .before .gather .ensures ∙ ap (gather (a .n) (a .mixed)) (c .before .before .wide .ensures .0) in
+    c .before .gather .ensures .0 ∙ ap (gather (a .n) (a .mixed)) (c .before .before .wide .ensures .0) in
     let x : c .place-choice .result ≡ placeChoice (a .class) (a .k) (place (a .n) (a .mixed) (l .t)) (place (a .n) (a .mixed) (at (a .complements .now) (l .t))) =
     c .place-choice .ensures ∙ ap₂ (placeChoice (a .class) (a .k)) (split .split .ensures .1) shown in
     (omega (arith, term-lt i), blocks-more _ _ _ _ _ (l .t) _ _ _ (split .split .ensures .0) x (parts-lt split .0) (l .inv .1))
