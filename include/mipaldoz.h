@@ -16,7 +16,7 @@
  *   - no pointer is null, also where the length is 0.
  * Everything else is judged by the call: every number n, m, k and w, every length and every byte may be passed.
  *
- * Answers. Each call returns its answer in the lent array `answer` and writes all of it, whatever it held. answer[MIPALDOZ_NUMBER] is 0
+ * Answers. Each call returns its answer in the array `answer` and writes all of it, whatever it held. answer[MIPALDOZ_NUMBER] is 0
  * where the call was carried out; else it is the number of the refusal, answer[MIPALDOZ_LINE] is its line, and the rest is 0. Lines count
  * from 1; the line is 0 where no text was lent, and for the refusals 7 to 10. For 11 and 12 it is the line in the listing.
  *
@@ -185,15 +185,15 @@ void mipaldoz_read(const uint8_t *text, size_t text_length,
                    uint64_t answer[MIPALDOZ_READ_ANSWER]);
 
 /*
- * Reads a table text, finds the cheapest expansion and writes its listing into the front of `output`. Where the text begins with `table` and
- * k is a digit the expansion is the one that mipaldoz_minimise finds, and the listing begins with `form`. Where the text begins with
+ * Reads a table text, finds the cheapest expansion and writes its listing into the front of `output`. Where the text begins with `table`
+ * and k is a digit the expansion is the one that mipaldoz_minimise finds, and the listing begins with `form`. Where the text begins with
  * `table2` it is the member of the class and the inversion mask with the least charge, 4 x products + literals, then fewest products, then
  * the least mask, then least M, then least i, then in each block the least block polarity; the listing begins with `form2`. Where the text
- * has an `f` field each term has its own polarity over M, in the place of one for its block, and equal costs go by mask, M, i and then the
- * least polarity of term 0, 1, and so on; the listing repeats the field. The second line of each of these listings is `inv` and the mask, a
- * character for each output from output 0 on. Where the text has `K` it is the cheapest Kronecker expansion: fewest products, then fewest
- * literals, then the letters that come first from xn down, S before P before N; the listing begins with `kron` and has no inverters. Bytes
- * past the listing keep what they held, and no zero byte is written after it.
+ * has an `f` field, or `-`, which means `f2`, or `f1` where n is 1, each term has its own polarity over M, in the place of one for its
+ * block, and equal costs go by mask, M, i and then the least polarity of term 0, 1, and so on; the listing has the `f` field. The second
+ * line of each of these listings is `inv` and the mask, a character for each output from output 0 on. Where the text has `K` it is the
+ * cheapest Kronecker expansion: fewest products, then fewest literals, then the letters that come first from xn down, S before P before N;
+ * the listing begins with `kron` and has no inverters. Bytes past the listing keep what they held, and no zero byte is written after it.
  *
  *   text           any bytes, any length; no zero byte ends it
  *   output         as long as the listing or longer; MIPALDOZ_LONGEST_LISTING bytes are enough for every text
@@ -217,11 +217,12 @@ void mipaldoz_compile(const uint8_t *text, size_t text_length,
  * point at which the listing's own lines, the outputs inverted where its `inv` line says, do not give the table's outputs; else
  * MIPALDOZ_SAME, whether the listing is the cheapest or not. Any mask is of the class.
  *
- * Refusals, the first that applies: the text as in mipaldoz_read, 1 to 6 with the line in the text. Then line 1 of the listing: 11 where it
- * is broken, 12 where its family, n, m or k is not the table's: a `form` listing goes with a text that begins with `table`, a `form2` listing
- * with one that begins with `table2`, and an `f` field with the same `f` field. Then its later lines, one by one: 11 with the line; line 2 is
- * the `inv` line. Then its counts: 12, line 1. Where the k of the text is `K`, a `form` or `form2` listing is refused by 12 and any other by
- * 11, each with line 1. A `kron` listing is refused by 11, line 1, beside every text that is accepted.
+ * Refusals, the first that applies: the text as in mipaldoz_read, 1 to 6 with the line in the text. Then line 1 of the listing: 11 where
+ * it is broken, 12 where its family, n, m or k is not the table's: a `form` listing goes with a text that begins with `table`, a `form2`
+ * listing with one that begins with `table2`, and an `f` field with the same `f` field, or with `-` where that means it. Then its later
+ * lines, one by one: 11 with the line; line 2 is the `inv` line. Then its counts: 12, line 1. Where the k of the text is `K`, a `form` or
+ * `form2` listing is refused by 12 and any other by 11, each with line 1. A `kron` listing is refused by 11, line 1, beside every text
+ * that is accepted.
  */
 void mipaldoz_check(const uint8_t *text, size_t text_length,
                     const uint8_t *listing, size_t listing_length,
