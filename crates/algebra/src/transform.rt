@@ -11,6 +11,8 @@ ghost use Rattle.numbers.specs.Bytes.{at, tabulate};
 ghost use Rattle.algebra.specs.Transform.{fits, coefficientBytes, changedBytes, valueBytes};
 ghost use Rattle.algebra.specs.inner.Steps.{halfStep, turnedWhere, allSteps, RunJoined, Apart};
 ghost use Rattle.algebra.specs.Terms.{value};
+use numbers::limits::Limits;
+use numbers::places::padded;
 
 // Joins each of the `size` bytes from `to` on with the byte as far from `from`.
 fn join_bytes(to: usize, from: usize, size: usize, bytes: &mut [u8])
@@ -147,7 +149,7 @@ fn lengths_fit(low: usize, n: usize, w: usize, given: usize, lent: usize) -> boo
     if 8 < low {
         return false;
     }
-    if 8 < n {
+    if Limits::INPUTS < n {
         return false;
     }
     let size: usize = 1 << n;
@@ -183,26 +185,6 @@ pub fn change_polarity(low: usize, n: usize, v: usize, w: usize, bytes: &mut [u8
             turn_inputs(low, n, v ^ w, bytes);
         }
     }
-}
-
-// The byte at place p, and 0 from the end on.
-fn byte_at(bytes: &[u8], p: usize) -> u8
-    ensures { λ r. ⌜ r ≡ at (now (bytes .entry)) p ⌝ }
-{
-    if p < bytes.len() { bytes[p] } else { 0 }
-}
-
-// The bytes, and 0 from their end on, as an array of 256.
-pub fn padded(bytes: &[u8]) -> [u8; 256]
-    ensures { λ r. ⌜ r ≡ tabulate 256 (at (now (bytes .entry))) ⌝ }
-{
-    let mut all = [0u8; 256];
-    let mut q: usize = 0;
-    while q < 256 {
-        all[q] = byte_at(bytes, q);
-        q += 1;
-    }
-    all
 }
 
 // The value at each point of the coefficients of one function of n inputs under w.

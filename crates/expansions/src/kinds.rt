@@ -2,7 +2,7 @@
 // selects the free class".
 ghost use mathlib.Core.Path.{_≡_};
 ghost use Rattle.expansions.specs.Classes.{apart, mostMixed};
-use numbers::refusals::MOST_MIXED;
+use numbers::limits::Limits;
 
 // What the literals of the mixed inputs follow: in document 01's class one polarity for all terms of a block, in the free class the term's own.
 pub enum Class {
@@ -21,8 +21,8 @@ pub fn most_mixed(class: Class) -> usize
     ensures { λ r. ⌜ r ≡ mostMixed class ⌝ }
 {
     match class {
-        Class::Block => MOST_MIXED,
-        Class::Free => 2,
+        Class::Block => Limits::MIXED,
+        Class::Free => Limits::FREE_MIXED,
     }
 }
 

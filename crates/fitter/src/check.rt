@@ -9,6 +9,7 @@ use listing_texts::beside::judge_beside_kronecker;
 use listing_texts::read::ListingAnswer;
 use listing_texts::read::ListingRead;
 use listing_texts::read::read_listing;
+use numbers::limits::Limits;
 use search::expansion::Expansion;
 use table_texts::read::ReadAnswer;
 use table_texts::read::read_table;
@@ -100,7 +101,7 @@ fn check_design(design: Design, table: &[u8; Expansion::PLACES], listing: &[u8])
 pub fn check(text: &[u8], listing: &[u8]) -> Checked
     ensures { λ r. ⌜ Check (now (text .entry)) (now (listing .entry)) r ⌝ }
 {
-    let mut table = [0u8; Sizes::TABLE];
+    let mut table = [0u8; Limits::PLACES];
     match read_table(text, &mut table) {
         ReadAnswer::Given(design) => check_design(design, &table, listing),
         ReadAnswer::Refused { number, line } => Checked::Refused { number, line },

@@ -1,12 +1,11 @@
 -- The record of a Kronecker expansion: the answer as the search over the kinds hands it up, the record with no product, and document 02's words
 -- of such a record.
-use mathlib.Core.Bool.{Bool, _&&_, cond}
+use mathlib.Core.Bool.{cond}
 use mathlib.Core.List.{List}
-use Prim.Native.Nat.{ℕ, _^_}
-use lib.Dec.{eqb}
-use lib.ListN.{length, replicate}
-use Rattle.numbers.specs.Bytes.{at, tabulate, allBelow}
-use Rattle.numbers.specs.Refusals.{tableRefusal}
+use Prim.Native.Nat.{ℕ}
+use lib.ListN.{replicate}
+use Rattle.numbers.specs.Bytes.{at, tabulate}
+use Rattle.numbers.specs.Refusals.{isTable}
 use Rattle.expansions.specs.Costs.{products}
 use Rattle.expansions.specs.kronecker.Costs.{kroneckerLiterals}
 use Rattle.expansions.specs.kronecker.Answers.{KroneckerMinimal, answerLetters, answerCoefficient}
@@ -25,10 +24,6 @@ answerKronecker n f =
 -- the record with no product, every letter `S`
 unfoldable pub emptyKronecker : KroneckerExpansion
 emptyKronecker = record { coefficients = replicate 256 0; letters = replicate 8 0; products = 0; literals = 0 }
-
--- n and m are none that document 01 refuses, and the bytes are a table of n inputs and m outputs
-unfoldable pub isTable : ℕ → ℕ → List ℕ → Bool
-isTable n m table = eqb (tableRefusal n m) 0 && (eqb (length table) (2 ^ n) && allBelow (2 ^ m) table)
 
 -- what the search hands up: the answer's record, and the empty record where there is no such table
 unfoldable pub searchedKronecker : ℕ → ℕ → List ℕ → KroneckerExpansion

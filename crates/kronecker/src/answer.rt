@@ -7,7 +7,7 @@ ghost use Rattle.numbers.specs.Bytes.{at, tabulate};
 ghost use Rattle.numbers.specs.Tests.{only};
 ghost use Rattle.expansions.specs.kronecker.Letters.{lettersOf};
 ghost use Rattle.expansions.specs.kronecker.Steps.{kroneckerCoefficient};
-ghost use Rattle.kronecker.specs.Expansion.{answerKronecker, isTable, searchedKronecker};
+ghost use Rattle.kronecker.specs.Expansion.{answerKronecker, searchedKronecker};
 use crate::expansion::KroneckerExpansion;
 use crate::step::step;
 use crate::walk::KIND_BITS;
@@ -15,9 +15,8 @@ use crate::walk::walk;
 use crate::weigh::HALF_PLACES;
 use crate::weigh::LITERAL_BITS;
 use crate::weigh::PRODUCT;
-use algebra::transform::padded;
-use numbers::refusals::judge_table;
-use numbers::refusals::within_outputs;
+use numbers::places::padded;
+use numbers::refusals::is_table;
 
 // A score's bits that are the number of its kind.
 const KIND_MASK: usize = (1 << KIND_BITS) - 1;
@@ -83,20 +82,6 @@ fn search_kinds(n: usize, table: &[u8]) -> KroneckerExpansion
         products,
         literals,
     }
-}
-
-// Whether n and m are none that document 01 refuses and the bytes are a table of n inputs and m outputs.
-fn is_table(n: usize, m: usize, table: &[u8]) -> bool
-    ensures { λ r. ⌜ r ≡ isTable n m (now (table .entry)) ⌝ }
-{
-    if judge_table(n, m) != 0 {
-        return false;
-    }
-    let size: usize = 1 << n;
-    if table.len() != size {
-        return false;
-    }
-    within_outputs(m, table)
 }
 
 // The record of the answer for a table of n inputs and m outputs, among the expansions of all 3^n kinds. Where these are not such numbers, or

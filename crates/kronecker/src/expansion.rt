@@ -1,6 +1,7 @@
-// The record that the search over the kinds hands up, and the limits of what it holds. The empty record has no product.
+// The record that the search over the kinds hands up. The empty record has no product.
 ghost use mathlib.Core.Path.{_≡_};
 ghost use Rattle.kronecker.specs.Expansion.{emptyKronecker};
+use numbers::limits::Limits;
 
 // An expansion of a kind and what it costs: the coefficient of each term, zero from 2^n on; the letter of each input from x1 up, S 0, P 1, N 2,
 // and 0 where there is no input; and the counts of products and literals.
@@ -21,11 +22,11 @@ impl KroneckerExpansion {
     // The letter of an input taken the negative Davio way.
     pub const NEGATIVE: u8 = 2;
 
-    // The most inputs a table has: n is 1 to 8.
-    pub const INPUTS: usize = numbers::refusals::MOST_INPUTS;
+    // The letters, one for each of as many inputs as there can be.
+    pub const INPUTS: usize = Limits::INPUTS;
 
     // The coefficient places, one for each term of as many inputs as there can be.
-    pub const PLACES: usize = 1 << KroneckerExpansion::INPUTS;
+    pub const PLACES: usize = Limits::PLACES;
 
     // The expansion with no product, every input taken the Shannon way.
     pub fn empty() -> KroneckerExpansion

@@ -91,7 +91,7 @@ fn lay_out(sizes: Sizes, mixed: usize, table: &[u8], lanes: &mut [u8])
     ensures { λ _. ⌜ now (lanes .exit) ≡ tabulate (8 * 2 ^ (sizes .n - sizes .k)) (λ x. placesByte (sizes .n) (sizes .k) mixed (at (now (table .entry))) (x % 8) (x / 8)) ⌝ }
     ensures places { λ _. ⌜ LaidOut (sizes .n) (sizes .k) mixed (now (table .entry)) (now (lanes .exit)) ⌝ }
 {
-    let mut points = [0u8; Sizes::PLACES];
+    let mut points = [0u8; numbers::limits::Limits::PLACES];
     let mut offsets = [0u8; 8];
     let count: usize = 1 << (sizes.n - sizes.k);
     open_out(sizes.n, outside(sizes.n, mixed), &mut points[..count]);

@@ -36,7 +36,7 @@ fn coefficient_at(
     sizes: Sizes,
     mixed: usize,
     lanes: &[u8],
-    chosen: &[u8; Sizes::PLACES],
+    chosen: &[u8; numbers::limits::Limits::PLACES],
     t: usize,
 ) -> u8
     requires { ⌜ Rows (sizes .class) (sizes .k) (now rows) ⌝ }
@@ -61,17 +61,17 @@ pub fn coefficients(
     sizes: Sizes,
     mixed: usize,
     lanes: &[u8],
-    chosen: &[u8; Sizes::PLACES],
-) -> [u8; Sizes::PLACES]
+    chosen: &[u8; numbers::limits::Limits::PLACES],
+) -> [u8; numbers::limits::Limits::PLACES]
     requires { ⌜ Rows (sizes .class) (sizes .k) (now rows) ⌝ }
     requires { ⌜ Limits sizes ⌝ }
     requires { ⌜ MixedSet sizes mixed × (length (now lanes) ≡ 8 * 2 ^ (sizes .n - sizes .k)) ⌝ }
     requires { ⌜ ((j : ℕ) → at (now chosen) j < cond (apart (sizes .class) (sizes .k)) 16 8) ⌝ }
     ensures { λ c. ⌜ c ≡ tabulate 256 (coefficientAt (sizes .class) (sizes .n) (sizes .k) mixed (at (now (lanes .entry))) (at (now (chosen .entry)))) ⌝ }
 {
-    let mut all = [0u8; Sizes::PLACES];
+    let mut all = [0u8; numbers::limits::Limits::PLACES];
     let mut t: usize = 0;
-    while t < Sizes::PLACES {
+    while t < numbers::limits::Limits::PLACES {
         all[t] = coefficient_at(rows, sizes, mixed, lanes, chosen, t);
         t += 1;
     }

@@ -4,7 +4,7 @@ use crate::rows::Grammar;
 use crate::rows::RowLine;
 use crate::rows::row_line;
 use fields::cursor::Cursor;
-use numbers::refusals::MOST_INPUTS;
+use numbers::limits::Limits;
 ghost use mathlib.Core.Path.{_≡_};
 ghost use mathlib.Core.Bool.{cond, _&&_};
 ghost use Prim.Native.Nat.{_^_, _≤_, _<_};
@@ -12,9 +12,6 @@ ghost use lib.Dec.{ltb, leb};
 ghost use lib.ListN.{set};
 ghost use Rattle.lines.specs.Rows.{unfinished, standsFor};
 ghost use Rattle.lines.specs.inner.Steps.{rowsAt, Within, Stepped};
-
-// The places for values: one for each point or term of as many inputs as there can be.
-pub const PLACES: usize = 1 << MOST_INPUTS;
 
 // What the lines lead to. A refusal has document 01's number and the line.
 pub enum RowsAnswer {
@@ -30,7 +27,13 @@ enum Step {
 }
 
 // Puts a value at a place, if the place is below 2^n and at least `least`; else the values stay.
-fn put_row(n: usize, least: usize, at: usize, value: usize, rows: &mut [u16; PLACES]) -> bool
+fn put_row(
+    n: usize,
+    least: usize,
+    at: usize,
+    value: usize,
+    rows: &mut [u16; Limits::PLACES],
+) -> bool
     requires { ⌜ (n ≤ 8) × (value < 65536) ⌝ }
     ensures { λ r. ⌜ r ≡ (ltb at (2 ^ n) && leb least at) ⌝ }
     ensures { λ r. ⌜ now (rows .exit) ≡ cond r (set (now (rows .entry)) at value) (now (rows .entry)) ⌝ }
@@ -58,7 +61,7 @@ fn judge_row(
     cursor: Cursor,
     grammar: Grammar,
     least: usize,
-    rows: &mut [u16; PLACES],
+    rows: &mut [u16; Limits::PLACES],
 ) -> Step
     requires { ⌜ (Within (now text) cursor) × (grammar .n ≤ 8) × (grammar .m ≤ 8) ⌝ }
     ensures { λ r. ⌜ Stepped (now (text .entry)) cursor grammar least (now (rows .entry)) r (now (rows .exit)) ⌝ }
@@ -98,7 +101,7 @@ pub fn judge_rows(
     text: &[u8],
     start: Cursor,
     grammar: Grammar,
-    rows: &mut [u16; PLACES],
+    rows: &mut [u16; Limits::PLACES],
 ) -> RowsAnswer
     requires { ⌜ (Within (now text) start) × (grammar .n ≤ 8) × (grammar .m ≤ 8) ⌝ }
     ensures { λ r. ⌜ standsFor r (now (rows .exit)) ≡ rowsAt (now (text .entry)) grammar start 0 (now (rows .entry)) ⌝ }

@@ -9,11 +9,11 @@ use expansions::kinds::Class;
 use expansions::kinds::most_mixed;
 use fields::cursor::Cursor;
 use fields::values::Number;
-use lines::judge::PLACES;
 use lines::judge::RowsAnswer;
 use lines::judge::judge_rows;
 use lines::rows::Grammar;
 use lines::rows::Kind;
+use numbers::limits::Limits;
 use numbers::refusals::judge_sizes;
 use search::expansion::Expansion;
 use shown_rows::shown::bytes_of;
@@ -108,7 +108,7 @@ fn alike(table: Sizes, listing: Sizes) -> bool
 }
 
 // Judges the counts that the first line states, once every line has passed.
-fn judge_counts(n: usize, form: Form, inverted: usize, rows: &[u16; PLACES]) -> Judged
+fn judge_counts(n: usize, form: Form, inverted: usize, rows: &[u16; Limits::PLACES]) -> Judged
     requires { ⌜ n ≤ 8 ⌝ }
     ensures { λ r. ⌜ standsFor r (now (rows .entry)) ≡ linesJudged n form inverted (rowsRead.rows (now (rows .entry))) ⌝ }
 {
@@ -135,7 +135,7 @@ fn judge_terms(
     sizes: Sizes,
     form: Form,
     inverted: usize,
-    rows: &mut [u16; PLACES],
+    rows: &mut [u16; Limits::PLACES],
 ) -> Judged
     requires { ⌜ (Within (now listing) start) × (sizes .n ≤ 8) × (sizes .m ≤ 8) ⌝ }
     ensures { λ r. ⌜ standsFor r (now (rows .exit)) ≡ linesJudged (sizes .n) form inverted (rowsAt (now (listing .entry)) (grammar sizes) start 0 (now (rows .entry))) ⌝ }
@@ -157,7 +157,7 @@ fn judge_from_second(
     start: Cursor,
     sizes: Sizes,
     form: Form,
-    rows: &mut [u16; PLACES],
+    rows: &mut [u16; Limits::PLACES],
 ) -> Judged
     requires { ⌜ (Within (now listing) start) × (start .line ≡ 2) × (sizes .n ≤ 8) × (sizes .m ≤ 8) × (now rows ≡ replicate 256 0) ⌝ }
     ensures { λ r. ⌜ standsFor r (now (rows .exit)) ≡ secondAt sizes form (now (listing .entry)) (start .at) ⌝ }
@@ -181,7 +181,7 @@ fn judge_from_second(
 }
 
 // Judges the listing from its first line on, and fills the rows, which come all zero.
-fn judge_listing(sizes: Sizes, listing: &[u8], rows: &mut [u16; PLACES]) -> Judged
+fn judge_listing(sizes: Sizes, listing: &[u8], rows: &mut [u16; Limits::PLACES]) -> Judged
     requires { ⌜ now rows ≡ replicate 256 0 ⌝ }
     ensures { λ r. ⌜ standsFor r (now (rows .exit)) ≡ listingReading sizes (now (listing .entry)) ⌝ }
 {
@@ -209,7 +209,12 @@ fn judge_listing(sizes: Sizes, listing: &[u8], rows: &mut [u16; PLACES]) -> Judg
 }
 
 // The record of a listing that passed.
-fn shown_listing(sizes: Sizes, form: Form, inverted: usize, rows: &[u16; PLACES]) -> ListingRead
+fn shown_listing(
+    sizes: Sizes,
+    form: Form,
+    inverted: usize,
+    rows: &[u16; Limits::PLACES],
+) -> ListingRead
     requires { ⌜ (sizes .n ≤ 8) × (sizes .k ≤ 3) × (inverted < 256) × ((t : ℕ) → at (now rows) t < 65536) ⌝ }
     ensures { λ r. ⌜ r ≡ shownRead sizes form inverted (now (rows .entry)) ⌝ }
 {
@@ -238,13 +243,13 @@ fn shown_listing(sizes: Sizes, form: Form, inverted: usize, rows: &[u16; PLACES]
 pub fn read_listing(sizes: Sizes, listing: &[u8]) -> ListingRead
     ensures { λ r. ⌜ r ≡ handedUp sizes (listingReading sizes (now (listing .entry))) ⌝ }
 {
-    let mut rows = [0u16; PLACES];
+    let mut rows = [0u16; Limits::PLACES];
     match judge_listing(sizes, listing, &mut rows) {
         Judged::Passed(form, inverted) => shown_listing(sizes, form, inverted, &rows),
         Judged::Refused { number, line } => ListingRead {
             answer: ListingAnswer::Refused { number, line },
             expansion: Expansion::empty(sizes.k),
-            complements: [0u8; PLACES],
+            complements: [0u8; Expansion::PLACES],
         },
     }
 }

@@ -7,7 +7,7 @@ ghost use Rattle.numbers.specs.Bytes.{at, tabulate};
 ghost use Rattle.minimise_calls.specs.Calls.{minimiseRefusal, Minimise};
 use expansions::families::Family;
 use expansions::kinds::Class;
-use numbers::refusals::MOST_MIXED;
+use numbers::limits::Limits;
 use numbers::refusals::judge_sizes;
 use numbers::refusals::within_outputs;
 use search::answer::find_answer;
@@ -40,7 +40,7 @@ fn first_refusal(
 ) -> usize
     ensures { λ r. ⌜ r ≡ minimiseRefusal n m k (now (table .entry)) coefficients blocks ⌝ }
 {
-    let sizes = judge_sizes(n, m, MOST_MIXED, k);
+    let sizes = judge_sizes(n, m, Limits::MIXED, k);
     if sizes != 0 {
         return sizes;
     }

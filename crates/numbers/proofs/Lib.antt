@@ -4,6 +4,7 @@ pub mod Bits
 pub mod Bytes
 pub mod Tables
 pub mod Shifts
+pub mod Multiples
 pub mod Sums
 pub mod Pack
 pub mod Ands

@@ -1,8 +1,10 @@
 -- Document 01, "Why a call declines": what the calls judge alike. A refusal is its number, and 0 where there is none.
 use mathlib.Core.Bool.{Bool, true, false, _&&_}
 use mathlib.Core.List.{List}
-use Prim.Native.Nat.{ℕ, zero, suc, _≤_}
-use lib.Dec.{leb}
+use Prim.Native.Nat.{ℕ, zero, suc, _^_, _≤_}
+use lib.Dec.{leb, eqb}
+use lib.ListN.{length}
+use Rattle.numbers.specs.Bytes.{allBelow}
 
 -- what follows where the test passes, and the refusal's number where it fails
 abbrev pub unless : Bool → ℕ → ℕ → ℕ
@@ -26,6 +28,11 @@ tableRefusal n m = unless (leb 1 n && leb n 8) 2 (unless (leb 1 m && leb m 8) 3 
 -- and "4. k is above 3 or above n.": `most` is the 3, and for document 02's free class, W-207, a 2: "`f` with a digit above 2 or above n is refusal 4"
 unfoldable pub sizesRefusal : (n m most k : ℕ) → ℕ
 sizesRefusal n m most k = orElse (tableRefusal n m) (unless (leb k most && leb k n) 4 0)
+
+-- n and m are none that document 01 refuses, and the bytes are a table of them: "A table is 2^n bytes; bit o of byte p is output o at p, and bits m to 7
+-- are 0."
+unfoldable pub isTable : ℕ → ℕ → List ℕ → Bool
+isTable n m bytes = eqb (tableRefusal n m) 0 && (eqb (length bytes) (2 ^ n) && allBelow (2 ^ m) bytes)
 
 -- the sizes of a table that are not refused (proofs/refusals/Judging, `table-none`, `table-accepted`)
 pub record TableSized (n m : ℕ) : Type 0 where

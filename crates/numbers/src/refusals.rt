@@ -1,17 +1,9 @@
 // Document 01, "Why a call declines": what the calls judge alike. A refusal is its number, and 0 where there is none.
+use crate::limits::Limits;
 ghost use mathlib.Core.Path.{_≡_};
 ghost use Prim.Native.Nat.{_^_};
 ghost use Rattle.numbers.specs.Bytes.{allBelow};
-ghost use Rattle.numbers.specs.Refusals.{tableRefusal, sizesRefusal};
-
-// The most inputs a table has.
-pub const MOST_INPUTS: usize = 8;
-
-// The most outputs.
-pub const MOST_OUTPUTS: usize = 8;
-
-// The most mixed inputs of document 01's class; there are at most n.
-pub const MOST_MIXED: usize = 3;
+ghost use Rattle.numbers.specs.Refusals.{tableRefusal, sizesRefusal, isTable};
 
 // The refusal of the sizes of a table: 2 where n is not 1 to 8, 3 where m is not, and 0 where both are.
 pub fn judge_table(n: usize, m: usize) -> usize
@@ -20,13 +12,13 @@ pub fn judge_table(n: usize, m: usize) -> usize
     if n < 1 {
         return 2;
     }
-    if MOST_INPUTS < n {
+    if Limits::INPUTS < n {
         return 2;
     }
     if m < 1 {
         return 3;
     }
-    if MOST_OUTPUTS < m {
+    if Limits::OUTPUTS < m {
         return 3;
     }
     0
@@ -59,9 +51,23 @@ pub fn within_outputs(m: usize, bytes: &[u8]) -> bool
         seen = seen | bytes[q];
         q += 1;
     }
-    if 8 <= m {
+    if Limits::OUTPUTS <= m {
         return true;
     }
     let limit: usize = 1 << m;
     (seen as usize) < limit
+}
+
+// Whether n and m are none that document 01 refuses and the bytes are a table of n inputs and m outputs.
+pub fn is_table(n: usize, m: usize, bytes: &[u8]) -> bool
+    ensures { λ r. ⌜ r ≡ isTable n m (now (bytes .entry)) ⌝ }
+{
+    if judge_table(n, m) != 0 {
+        return false;
+    }
+    let size: usize = 1 << n;
+    if bytes.len() != size {
+        return false;
+    }
+    within_outputs(m, bytes)
 }

@@ -3,9 +3,9 @@ use mathlib.Core.Bool.{Bool, _&&_, cond}
 use mathlib.Core.List.{List}
 use Prim.Native.Nat.{ℕ, _-_, _^_, min}
 use lib.Dec.{leb, ltb, eqb}
-use lib.ListN.{length, replicate}
-use Rattle.numbers.specs.Bytes.{at, tabulate, allBelow}
-use Rattle.numbers.specs.Refusals.{sizesRefusal}
+use lib.ListN.{replicate}
+use Rattle.numbers.specs.Bytes.{at, tabulate}
+use Rattle.numbers.specs.Refusals.{sizesRefusal, isTable}
 use Rattle.expansions.specs.declared.kinds.Class.{Class}
 use Rattle.expansions.specs.declared.families.Family.{Family}
 use Rattle.expansions.specs.Classes.{mostMixed}
@@ -41,9 +41,9 @@ emptyExpansion k =
       inverted = 0;
     }
 
--- n, m and k are none that the documents refuse, and the bytes are a table of n inputs and m outputs
+-- the bytes are a table of n inputs and m outputs, and k is none that the documents refuse beside them
 unfoldable pub searchable : Class → (n m k : ℕ) → List ℕ → Bool
-searchable C n m k table = eqb (sizesRefusal n m (mostMixed C) k) 0 && (eqb (length table) (2 ^ n) && allBelow (2 ^ m) table)
+searchable C n m k table = isTable n m table && eqb (sizesRefusal n m (mostMixed C) k) 0
 
 -- what the search hands up: the answer's record, and the empty record where there is no such table
 unfoldable pub searched : Class → Family → (n m k : ℕ) → List ℕ → Expansion

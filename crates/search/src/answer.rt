@@ -11,8 +11,8 @@ use expansions::families::Family;
 use expansions::kinds::Class;
 use expansions::kinds::most_mixed;
 use lanes::sizes::Sizes;
+use numbers::refusals::is_table;
 use numbers::refusals::judge_sizes;
-use numbers::refusals::within_outputs;
 use pairs::leader::first_least;
 
 // The record of the answer. The number of outputs is not needed: an output that there is not is zero at every point.
@@ -27,18 +27,14 @@ fn search_allowed(sizes: Sizes, table: &[u8]) -> Expansion
     expansion_of(&rows, sizes, table, leader)
 }
 
-// Whether n, m and k are none that the documents refuse and the bytes are a table of n inputs and m outputs.
+// Whether the bytes are a table of n inputs and m outputs and k is none that the documents refuse beside them.
 fn allowed(class: Class, n: usize, m: usize, k: usize, table: &[u8]) -> bool
     ensures { λ r. ⌜ r ≡ searchable class n m k (now (table .entry)) ⌝ }
 {
-    if judge_sizes(n, m, most_mixed(class), k) != 0 {
-        return false;
+    if is_table(n, m, table) {
+        return judge_sizes(n, m, most_mixed(class), k) == 0;
     }
-    let size: usize = 1 << n;
-    if table.len() != size {
-        return false;
-    }
-    within_outputs(m, table)
+    false
 }
 
 // The record of the answer of a class and a family for a table of n inputs and m outputs, with k mixed inputs. Where these are not such numbers, or the

@@ -1,8 +1,9 @@
-// The expansion record of document 01, which the search hands up, and the limits of what it holds. The empty record is document 01's
+// The expansion record of document 01, which the search hands up. The empty record is document 01's
 // answer for a table that is all zero.
 ghost use mathlib.Core.Path.{_≡_};
 ghost use Prim.Native.Nat.{_-_, _^_, min};
 ghost use Rattle.search.specs.Expansion.{emptyExpansion};
+use numbers::limits::Limits;
 
 // A member of a class and what it costs: the coefficient of each term, the choice of each block, which in document 01's class is its polarity, the
 // mixed set M and the fixed polarity i as masks, the counts of products and literals, and the outputs that are inverted, bit o for output o.
@@ -17,17 +18,8 @@ pub struct Expansion {
 }
 
 impl Expansion {
-    // The most inputs a table has: n is 1 to 8.
-    pub const MOST_INPUTS: usize = numbers::refusals::MOST_INPUTS;
-
-    // The most outputs: m is 1 to 8.
-    pub const MOST_OUTPUTS: usize = numbers::refusals::MOST_OUTPUTS;
-
-    // The most mixed inputs of document 01's class: k is 0 to 3, and at most n.
-    pub const MOST_MIXED: usize = numbers::refusals::MOST_MIXED;
-
     // The coefficient places, one for each term of as many inputs as there can be; there are as many for the choices of the blocks.
-    pub const PLACES: usize = 1 << Expansion::MOST_INPUTS;
+    pub const PLACES: usize = Limits::PLACES;
 
     // The expansion with no product and no output inverted, whose mixed set is the k lowest inputs. A k above 8 is read as 8, so that the set stays
     // within the eight inputs; nothing is refused.
@@ -51,7 +43,7 @@ impl Expansion {
 fn lowest_inputs(k: usize) -> usize
     ensures { λ r. ⌜ r ≡ 2 ^ min k 8 - 1 ⌝ }
 {
-    if Expansion::MOST_INPUTS < k {
+    if Limits::INPUTS < k {
         return Expansion::PLACES - 1;
     }
     (1 << k) - 1

@@ -5,6 +5,7 @@ ghost use Rattle.search.specs.Expansion.{termPolarity};
 use crate::expansion::Expansion;
 use expansions::kinds::Class;
 use expansions::kinds::apart;
+use numbers::limits::Limits;
 use points::split::split;
 use points::split::spread;
 use points::split::wide;
@@ -48,7 +49,7 @@ pub fn term_polarity(
 ) -> usize
     ensures { λ w. ⌜ w ≡ termPolarity class n k mixed fixed (now (blocks .entry)) t ⌝ }
 {
-    if Expansion::MOST_INPUTS < n {
+    if Limits::INPUTS < n {
         return 0;
     }
     let all: usize = 1 << n;

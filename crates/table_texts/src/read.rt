@@ -3,15 +3,14 @@
 use crate::first::FirstLine;
 use crate::first::first_line;
 use crate::sizes::Design;
-use crate::sizes::Sizes;
 use crate::sizes::judge_design;
 use fields::cursor::Cursor;
-use lines::judge::PLACES;
 use lines::judge::RowsAnswer;
 use lines::judge::judge_rows;
 use lines::judge::unfinished;
 use lines::rows::Grammar;
 use lines::rows::Kind;
+use numbers::limits::Limits;
 ghost use mathlib.Core.Path.{_≡_};
 ghost use Prim.Native.Nat.{ℕ, _≤_, _<_};
 ghost use lib.ListN.{length, replicate};
@@ -42,7 +41,12 @@ fn judge_first(line: &[u8]) -> ReadAnswer
 }
 
 // Judges the lines after the first, and puts their outputs among the rows.
-fn judge_points(text: &[u8], start: Cursor, design: Design, rows: &mut [u16; PLACES]) -> ReadAnswer
+fn judge_points(
+    text: &[u8],
+    start: Cursor,
+    design: Design,
+    rows: &mut [u16; Limits::PLACES],
+) -> ReadAnswer
     requires { ⌜ (Within (now text) start) × (design .n ≤ 8) × (design .m ≤ 8) ⌝ }
     ensures { λ r. ⌜ standsFor r (now (rows .exit)) ≡ withDesign design (rowsAt (now (text .entry)) (tableGrammar (design .n) (design .m)) start 0 (now (rows .entry))) ⌝ }
 {
@@ -58,7 +62,7 @@ fn judge_points(text: &[u8], start: Cursor, design: Design, rows: &mut [u16; PLA
 }
 
 // Judges the text from its first line on, and fills the rows, which come all zero.
-fn judge_text(text: &[u8], rows: &mut [u16; PLACES]) -> ReadAnswer
+fn judge_text(text: &[u8], rows: &mut [u16; Limits::PLACES]) -> ReadAnswer
     requires { ⌜ now rows ≡ replicate 256 0 ⌝ }
     ensures { λ r. ⌜ standsFor r (now (rows .exit)) ≡ reading (now (text .entry)) ⌝ }
 {
@@ -77,7 +81,7 @@ fn judge_text(text: &[u8], rows: &mut [u16; PLACES]) -> ReadAnswer
 }
 
 // Copies the outputs of each point, which are a byte, into a table with as many places.
-fn copy(rows: &[u16; PLACES], table: &mut [u8])
+fn copy(rows: &[u16; Limits::PLACES], table: &mut [u8])
     requires { ⌜ (length (now rows) ≡ 256) × (length (now table) ≡ 256) × ((p : ℕ) → at (now rows) p < 256) ⌝ }
     ensures { λ _. ⌜ now (table .exit) ≡ now (rows .entry) ⌝ }
 {
@@ -93,11 +97,11 @@ fn copy(rows: &[u16; PLACES], table: &mut [u8])
 pub fn read_table(text: &[u8], table: &mut [u8]) -> ReadAnswer
     ensures { λ r. ⌜ ReadTable (now (text .entry)) (now (table .entry)) r (now (table .exit)) ⌝ }
 {
-    let mut rows = [0u16; PLACES];
+    let mut rows = [0u16; Limits::PLACES];
     let answer = judge_text(text, &mut rows);
     match answer {
         ReadAnswer::Given(_) => {
-            if table.len() != Sizes::TABLE {
+            if table.len() != Limits::PLACES {
                 return ReadAnswer::Refused { number: 8, line: 0 };
             }
             copy(&rows, table);

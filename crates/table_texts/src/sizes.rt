@@ -3,7 +3,6 @@ use expansions::families::Family;
 use expansions::kinds::Class;
 use expansions::kinds::Kind;
 use expansions::kinds::most_mixed;
-use numbers::refusals::MOST_INPUTS;
 use numbers::refusals::judge_sizes;
 use numbers::refusals::judge_table;
 ghost use mathlib.Core.Path.{_≡_};
@@ -16,11 +15,6 @@ pub struct Sizes {
     pub class: Class,
     pub k: usize,
     pub family: Family,
-}
-
-impl Sizes {
-    // The bytes of a lent table: one for each point of as many inputs as there can be.
-    pub const TABLE: usize = 1 << MOST_INPUTS;
 }
 
 // What the first line of a table text says: the inputs n, the outputs m, the kind of k and the family.

@@ -7,6 +7,7 @@ use kronecker::answer::find_kronecker;
 use listing_writing::form::write_listing;
 use listing_writing::kron::write_kronecker;
 use listing_writing::listed::Listed;
+use numbers::limits::Limits;
 use search::answer::find_answer;
 use table_texts::read::ReadAnswer;
 use table_texts::read::read_table;
@@ -95,7 +96,7 @@ fn compile_table(design: Design, table: &[u8], output: &mut [u8]) -> Compiled
 pub fn compile(text: &[u8], output: &mut [u8]) -> Compiled
     ensures { λ r. ⌜ Compile (now (text .entry)) (now (output .entry)) (now (output .exit)) r ⌝ }
 {
-    let mut table = [0u8; Sizes::TABLE];
+    let mut table = [0u8; Limits::PLACES];
     match read_table(text, &mut table) {
         ReadAnswer::Given(design) => compile_table(design, &table, output),
         ReadAnswer::Refused { number, line } => Compiled::Refused { number, line },

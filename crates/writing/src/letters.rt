@@ -1,6 +1,7 @@
 // The letters of a Kronecker expansion and the cubes of its terms, written into a lent buffer. `letters` holds the letter of each input from x1 up:
 // S is 0, P is 1, N is 2.
 use crate::writer::Writer;
+use numbers::limits::Limits;
 ghost use mathlib.Core.Path.{_≡_};
 ghost use Prim.Native.Nat.{_+_, _%_, _≤_};
 ghost use lib.ListN.{length};
@@ -8,9 +9,6 @@ ghost use Rattle.numbers.specs.Bytes.{at};
 ghost use Rattle.expansions.specs.kronecker.Letters.{literalOf};
 ghost use Rattle.listings.specs.Kronecker.{letterByte, letterBytes, literalByte, kroneckerCube};
 ghost use Rattle.writing.specs.Put.{Put};
-
-// How many letters there can be: as many as inputs.
-pub const LETTERS: usize = numbers::refusals::MOST_INPUTS;
 
 // The character of a letter.
 fn letter_byte(letter: u8) -> u8
@@ -56,7 +54,12 @@ fn with_bit(letter: u8) -> u8
 }
 
 // The n letters, that of the highest input first.
-pub fn write_letters(start: Writer, out: &mut [u8], n: usize, letters: &[u8; LETTERS]) -> Writer
+pub fn write_letters(
+    start: Writer,
+    out: &mut [u8],
+    n: usize,
+    letters: &[u8; Limits::INPUTS],
+) -> Writer
     requires { ⌜ (n ≤ 8) × (start .at + n ≤ length (now out)) ⌝ }
     ensures { λ r. ⌜ Put (now (out .entry)) (start .at) (letterBytes n (at (now (letters .entry)))) (now (out .exit)) (r .at) ⌝ }
 {
@@ -74,7 +77,7 @@ pub fn write_cube(
     start: Writer,
     out: &mut [u8],
     n: usize,
-    letters: &[u8; LETTERS],
+    letters: &[u8; Limits::INPUTS],
     t: usize,
 ) -> Writer
     requires { ⌜ (n ≤ 8) × (start .at + n ≤ length (now out)) ⌝ }

@@ -16,6 +16,7 @@ use Rattle.numbers.specs.Bytes.{at, tabulate}
 use Rattle.numbers.proofs.Bytes.{length-tabulate, at-tabulate, tabulate-ext}
 use Rattle.numbers.proofs.Flips.{xor-above}
 use Rattle.numbers.proofs.Xor.{xor-cancel-l}
+use Rattle.numbers.proofs.Multiples.{multiple-down}
 use Rattle.algebra.specs.Terms.{value}
 use Rattle.algebra.specs.Coefficients.{xorInside, coefficient}
 use Rattle.algebra.specs.Transform.{lane, inLanes, fits, coefficientBytes, changedBytes}
@@ -25,7 +26,6 @@ use Rattle.algebra.proofs.Coefficients.{value-inside, coefficient-value
 use Rattle.algebra.proofs.HalfSteps.{half-lane, where-lane, where-below, steps-lane, steps-below}
 use Rattle.algebra.proofs.Turned.{steps-inside, coefficient-changed}
 use Rattle.algebra.proofs.Lanes.{Fitting, fits-true, lanes-one, place-lt, point-lt}
-use Rattle.algebra.proofs.transform.Halves.{multiple-down}
 
 -- ---- in lanes
 

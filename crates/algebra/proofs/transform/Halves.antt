@@ -3,15 +3,16 @@ use mathlib.Core.Path.{_≡_, sym, ap, ap₂, _∙_}
 use mathlib.Core.Bool.{cond}
 use mathlib.Core.List.{List}
 use Prim.Native.Nat.{ℕ, zero, suc, _+_, _-_, _*_, _/_, _%_, _^_, _≤_, _<_}
-use native.Mathlib.Nat.{div-add-mod', pow-suc, add-zero, one-mul, add-mul, mul-assoc, suc-mul, zero-mod, add-mod-right, mul-le-mul-right}
+use native.Mathlib.Nat.{div-add-mod', pow-suc, add-zero, one-mul, add-mul, mul-assoc, zero-mod, add-mod-right}
 use native.Mathlib.Decide.{decLt}
 use native.Mathlib.Omega.{arith}
 use lib.Dec.{eqb}
-use lib.Pow.{pow-add, shl-exact, mod-mod-pow}
+use lib.Pow.{pow-add, shl-exact}
 use lib.ListN.{length}
 use lib.Bits.{bitXor}
 use Rattle.numbers.specs.Bytes.{at, tabulate}
 use Rattle.numbers.proofs.Bytes.{Filled, filled-none, filled-all}
+use Rattle.numbers.proofs.Multiples.{multiple-room, multiple-down}
 use Rattle.algebra.specs.inner.Steps.{halfStep, RunJoined, Apart, ahead, behind}
 use Rattle.algebra.proofs.HalfSteps.{half-lane, half-lowest}
 
@@ -33,14 +34,6 @@ pair-half d s base e i g a h l =
         omega (arith, add-mul (j * 2) e (2 ^ s))
 
 -- ---- the loops
-
--- a multiple of d that is below another is so by d at least
-pub multiple-room : (d a b : ℕ) → a % d ≡ 0 → b % d ≡ 0 → a < b → a + d ≤ b
-multiple-room d a b ea eb h = go (decLt (a / d) (b / d))
-  where
-    go : Dec (a / d < b / d) → a + d ≤ b
-    go (yes l) = omega (arith, div-add-mod' a d, div-add-mod' b d, mul-le-mul-right d l, suc-mul (a / d) d)
-    go (no l) = let k : b / d ≤ a / d = omega arith in absurd (omega (arith, div-add-mod' a d, div-add-mod' b d, mul-le-mul-right d k))
 
 -- the half step has been done below base, a multiple of the size of two runs; `to` and `from` are where the two runs begin
 pub record HalvedTo (d s size to from base : ℕ) (before after : List ℕ) : Type 0 where
@@ -172,12 +165,6 @@ module _ (d s size to from base : ℕ) (before mid : List ℕ) (h : base < lengt
   eights-more after r =
       let n : (base + size + size) * 8 ≡ base * 8 + size * 8 + size * 8 = omega arith in
       rw n (halved-more d s (size * 8) (to * 8) (from * 8) (base * 8) before mid start f after (rw (times to, times from) at r))
-
--- a multiple of 2 ^ n is one of 2 ^ k
-pub multiple-down : (n k x : ℕ) → k ≤ n → x % 2 ^ n ≡ 0 → x % 2 ^ k ≡ 0
-multiple-down n k x h e =
-    let s : n ≡ n - k + k = omega arith in
-    sym (mod-mod-pow x (n - k) k) ∙ rw (← s, e) (zero-mod (2 ^ k))
 
 pub eights-all : (d s size to from base : ℕ) (before after : List ℕ) → length before / 8 ≤ base
     → HalvedTo d (s + 3) (size * 8) (to * 8) (from * 8) (base * 8) before after → after ≡ tabulate (length before) (halfStep d (s + 3) (at before))

@@ -9,9 +9,9 @@ use lib.ListN.{length}
 use Rattle.numbers.specs.Bits.{bit}
 use Rattle.numbers.specs.Bytes.{at, tabulate}
 use Rattle.numbers.proofs.Bytes.{length-tabulate, at-tabulate, is-table, tabulate-ext}
+use Rattle.numbers.proofs.Multiples.{multiple-down}
 use Rattle.algebra.specs.inner.Steps.{halfStep, turnedWhere, allSteps}
 use Rattle.algebra.proofs.HalfSteps.{Below}
-use Rattle.algebra.proofs.transform.Halves.{multiple-down}
 
 -- bytes are the table of what they hold
 pub table-self : (b : List ℕ) → b ≡ tabulate (length b) (at b)

@@ -12,7 +12,7 @@ use Rattle.numbers.specs.Bytes.{at}
 use Rattle.numbers.specs.Bits.{bit}
 use lib.Seq.{getD-set-same, getD-set-other}
 use Rattle.numbers.proofs.Shifts.{one-shifted}
-use Rattle.algebra.proofs.transform.Halves.{multiple-room}
+use Rattle.numbers.proofs.Multiples.{multiple-room}
 use Rattle.expansions.specs.kronecker.Steps.{stepValue, without, kroneckerStep}
 use Rattle.expansions.specs.inner.KroneckerWalk.{RunStepped, Stepped}
 

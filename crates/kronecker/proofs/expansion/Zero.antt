@@ -5,10 +5,11 @@ use mathlib.Core.Bool.{Bool, true, false, cond}
 use mathlib.Core.List.{List}
 use Prim.Native.Nat.{ℕ, _^_, _≤_, _<_}
 use Rattle.numbers.specs.Bytes.{at}
+use Rattle.numbers.specs.Refusals.{isTable}
 use Rattle.numbers.proofs.Tables.{tabulate-zero}
 use Rattle.expansions.proofs.Costs.{products-zero}
 use Rattle.expansions.proofs.kronecker.Zero.{no-literals, zero-letters, zero-coefficients}
-use Rattle.kronecker.specs.Expansion.{answerKronecker, emptyKronecker, isTable, searchedKronecker}
+use Rattle.kronecker.specs.Expansion.{answerKronecker, emptyKronecker, searchedKronecker}
 use Rattle.kronecker.proofs.answer.Searchable.{allowed-table}
 
 pub kronecker-of-zero : (n : ℕ) (f : ℕ → ℕ) → n ≤ 8 → ((p : ℕ) → p < 2 ^ n → f p ≡ 0) → answerKronecker n f ≡ emptyKronecker

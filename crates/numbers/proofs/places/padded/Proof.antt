@@ -3,11 +3,11 @@ use borrow.Author.Needs.{needs}
 use mathlib.Core.Path.{_≡_, _∙_, ap}
 use Prim.Native.Nat.{ℕ, _-_}
 use lib.ListN.{length}
 use Rattle.numbers.specs.Bytes.{at, tabulate}
 use Rattle.numbers.proofs.Bytes.{Filled, filled-none, filled-more, filled-all}
 use native.Mathlib.Omega.{arith}
-use Rattle.algebra.proofs.transform.padded.Statement.{statement}
-use Rattle.algebra.proofs.transform.padded.Tie as tie
+use Rattle.numbers.proofs.places.padded.Statement.{statement}
+use Rattle.numbers.proofs.places.padded.Tie as tie
 
 abbrev Inv-loop : tie.InvT-loop
 Inv-loop bytes all₀ q₀ all q = (length all₀ ≡ 256) × Filled (at bytes) q all₀ all

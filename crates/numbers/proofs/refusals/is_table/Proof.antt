@@ -4,12 +4,11 @@ use mathlib.Core.Path.{_≡_, sym, _∙_}
 use Prim.Native.Nat.{_*_, _^_, _%_}
 use borrow.Author.Tests.{eq-eqb, ne-eqb}
 use native.Mathlib.Omega.{arith}
-use Rattle.numbers.specs.Refusals.{tableRefusal}
+use Rattle.numbers.specs.Refusals.{tableRefusal, isTable}
 use Rattle.numbers.proofs.Shifts.{one-shifted}
 use Rattle.numbers.proofs.refusals.Judging.{table-none}
-use Rattle.kronecker.specs.Expansion.{isTable}
-use Rattle.kronecker.proofs.answer.is_table.Statement.{statement}
-use Rattle.kronecker.proofs.answer.is_table.Tie as tie
+use Rattle.numbers.proofs.refusals.is_table.Statement.{statement}
+use Rattle.numbers.proofs.refusals.is_table.Tie as tie
 
 judge-table-requires : tie.Need-judge-table-requires
 judge-table-requires c κs = search needs

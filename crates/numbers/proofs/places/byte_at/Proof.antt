@@ -2,8 +2,8 @@
 use borrow.Author.Needs.{needs}
 use mathlib.Core.Path.{sym}
 use lib.ListN.{List·getD-eq-default}
-use Rattle.algebra.proofs.transform.byte_at.Statement.{statement}
-use Rattle.algebra.proofs.transform.byte_at.Tie as tie
+use Rattle.numbers.proofs.places.byte_at.Statement.{statement}
+use Rattle.numbers.proofs.places.byte_at.Tie as tie
 
 shared-slice-read-result : tie.Need-shared-slice-read-result
 shared-slice-read-result c = search needs
