@@ -22,9 +22,9 @@ use Rattle.listings.proofs.Forms.{listing-field}
 use Rattle.table_texts.specs.declared.sizes.Design.{Design}
 use Rattle.table_texts.specs.First.{dashKind}
 use Rattle.table_texts.specs.Read.{Reading, given, refused, reading}
-use Rattle.table_texts.specs.TableTexts.{kindField, designLine, dashDesign}
-use Rattle.table_texts.proofs.Acceptance.{dash-written-out}
-use Rattle.table_texts.proofs.DesignLine.{kind-dash}
+use Rattle.table_texts.specs.TableTexts.{kindField, dashCharacters, designLine}
+use Rattle.table_texts.proofs.Acceptance.{dashDesign, dash-written-out}
+use Rattle.table_texts.proofs.DesignLine.{kind-dash, dash-characters}
 use Rattle.table_texts.proofs.Exactness.{first-given}
 use Rattle.text.specs.declared.compile.Compiled.the-variants.{Written}
 use Rattle.text.specs.Compile.{answerListing, compiled, bufferAfter, Compile}
@@ -33,15 +33,15 @@ use Rattle.text.proofs.print.Shown.{print-whole}
 use Rattle.comparisons.specs.DashField.{dashed, DashField}
 
 module _ (d : Design) (rest : List ℕ) (hn : d .n < 10) (hm : d .m < 10) where
-  answer-field : (t : List ℕ) → shownField (answerListing (dashDesign d) t) ≡ kindField (dashKind (d .n))
+  answer-field : (t : List ℕ) → shownField (answerListing (dashDesign d) t) ≡ dashCharacters (d .n)
   unfolding answerListing dashKind kindField
-  answer-field t = listing-field _ (d .family) (d .n) (d .m) _ _
+  answer-field t = listing-field _ (d .family) (d .n) (d .m) _ _ ∙ dash-characters (d .n)
 
   dash-shown : (before after : List ℕ) (count : ℕ) → Compile (dashed d rest) before after (Written count)
-      → shownField (take count after) ≡ kindField (dashKind (d .n))
+      → shownField (take count after) ≡ dashCharacters (d .n)
   unfolding compiled designLine
   dash-shown before after count h = go (reading (dashed d rest)) refl where
-    go : (x : Reading) → reading (dashed d rest) ≡ x → shownField (take count after) ≡ kindField (dashKind (d .n))
+    go : (x : Reading) → reading (dashed d rest) ≡ x → shownField (take count after) ≡ dashCharacters (d .n)
     go (given y t) e =
         let same : dashDesign d ≡ y = first-given (bytes "-") (dashDesign d) rest y t hn hm (kind-dash (d .n)) e in
         let listed : take count after ≡ answerListing y t =

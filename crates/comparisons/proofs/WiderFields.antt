@@ -1,4 +1,4 @@
--- W-207 of texts and their listings (`wider-fields`): the counts that two listings state are the least costs of their table, and so follow the law of
+-- W-207 of texts and their listings (`wider-fields`), with a text of the next field (`next-accepted`): the counts that two listings state are the least costs of their table, and so follow the law of
 -- tables. Where fewer than two inputs are mixed the listings of both classes are the same but for the field (`alike-fields`).
 use mathlib.Core.List.{List}
 use mathlib.Core.Path.{_≡_, refl, ap, fun-ext, _∙_}
@@ -13,19 +13,27 @@ use Rattle.search.specs.declared.expansion.Expansion.{Expansion}
 use Rattle.search.specs.Expansion.{answerExpansion}
 use Rattle.listings.specs.Listing.{fieldsOf, listingWith, listing}
 use Rattle.listings.specs.Meaning.{IsListing}
+use Rattle.table_texts.specs.Accepted.{Accepted}
 use Rattle.table_texts.specs.Read.{given, reading}
+use Rattle.table_texts.proofs.Acceptance.{table-text-accepted}
 use Rattle.table_texts.proofs.read.Accepted.{reading-accepted}
 use Rattle.text.specs.Compile.{answerListing}
 use Rattle.text.proofs.compile.Listings.{compile-listed}
 use Rattle.comparisons.specs.FewerPins.{ListedNoDearer}
 use Rattle.comparisons.specs.WiderFields.{freeDesign, WiderFields, AlikeFields}
-use Rattle.comparisons.proofs.FewerPins.{printed-listing}
+use Rattle.comparisons.proofs.FewerPins.{least-cost, printed-listing}
 
 -- from the bytes of both listings
 listed-wider : (n k : ℕ) (family : Family) (f : ℕ → ℕ) → suc k ≤ n → (wider other : List ℕ) → IsListing n family (Mixed Free (suc k)) f wider
     → IsListing n family (Mixed Free k) f other → ListedNoDearer family wider other
 listed-wider n k family f h wider other a b =
     rw (a .products-stated, a .literals-stated, b .products-stated, b .literals-stated) (wider-no-dearer n k family f h _ _ _ _ (b .least) (a .least))
+
+-- the design with the next digit is accepted with the same table
+next-accepted : (n m k : ℕ) (family : Family) (t : List ℕ) → Accepted (freeDesign n m k family) t → suc k ≤ 2 → suc k ≤ n
+    → Accepted (freeDesign n m (suc k) family) t
+next-accepted n m k family t a few h =
+    record { sized = record { inputs = a .sized .inputs; outputs = a .sized .outputs; mixed = (few, h); family = a .sized .family }; table = a .table }
 
 -- as many inputs are mixed as there are, at most
 within : (n m k : ℕ) (family : Family) (text t : List ℕ) → reading text ≡ given (freeDesign n m k family) t → k ≤ n
@@ -34,6 +42,10 @@ within n m k family text t e = reading-accepted text (freeDesign n m k family) t
 pub wider-fields : (n m : ℕ) (family : Family) (t : List ℕ) → WiderFields n m family t
 wider-fields n m family t =
     record {
+      least = λ k text means. least-cost (freeDesign n m k family) t (reading-accepted text (freeDesign n m k family) t means);
+      next = λ k text means few h.
+          table-text-accepted (freeDesign n m (suc k) family) t
+          (next-accepted n m k family t (reading-accepted text (freeDesign n m k family) t means) few h);
       written = λ k text wider means means′ before after before′ after′ count count′ a b.
           listed-wider n k family (at t) (within n m (suc k) family wider t means′) _ _ (compile-listed wider before′ after′ count′ (freeDesign n m (suc k) family) t b means′)
           (compile-listed text before after count (freeDesign n m k family) t a means);

@@ -7,9 +7,8 @@ use lib.ListN.{take}
 use Rattle.listings.specs.Parts.{bytes}
 use Rattle.listings.specs.Meaning.{shownField}
 use Rattle.table_texts.specs.declared.sizes.Design.{Design}
-use Rattle.table_texts.specs.First.{dashKind}
 use Rattle.table_texts.specs.Read.{given, reading}
-use Rattle.table_texts.specs.TableTexts.{kindField, designLine}
+use Rattle.table_texts.specs.TableTexts.{dashCharacters, designLine}
 use Rattle.text.specs.declared.compile.Compiled.{Compiled}
 use Rattle.text.specs.declared.compile.Compiled.the-variants.{Written}
 use Rattle.text.specs.Compile.{Compile}
@@ -21,7 +20,7 @@ dashed d rest = designLine d (bytes "-") ++ rest
 
 -- the same text with the field that `-` means written out
 abbrev pub writtenOut : Design → List ℕ → List ℕ
-writtenOut d rest = designLine d (kindField (dashKind (d .n))) ++ rest
+writtenOut d rest = designLine d (dashCharacters (d .n)) ++ rest
 
 -- W-208 of the texts with these lines after the first
 pub record DashField (d : Design) (rest : List ℕ) : Type 0 where
@@ -35,4 +34,4 @@ pub record DashField (d : Design) (rest : List ℕ) : Type 0 where
       → Print (writtenOut d rest) held′ count′ → take count held ≡ take count′ held′
   -- "A listing shows the k that was used."
   pub shown : (before after : List ℕ) (count : ℕ) → Compile (dashed d rest) before after (Written count)
-      → shownField (take count after) ≡ kindField (dashKind (d .n))
+      → shownField (take count after) ≡ dashCharacters (d .n)

@@ -7,7 +7,7 @@ use lib.ListN.{take}
 use Rattle.numbers.specs.Bytes.{at}
 use Rattle.expansions.specs.declared.families.Family.{Family}
 use Rattle.expansions.specs.Rules.{NoDearer}
-use Rattle.expansions.specs.Rivals.{LeastCost}
+use Rattle.expansions.specs.Rivals.{HasLeast}
 use Rattle.expansions.specs.Outputs.{chosenOutputs, chosenTable, FewerOutputs}
 use Rattle.listings.specs.Meaning.{statedProducts, statedLiterals}
 use Rattle.table_texts.specs.declared.sizes.Design.{Design}
@@ -28,7 +28,7 @@ MeansChosen fewer d t s = reading fewer ≡ given (chosenDesign s d) (chosenTabl
 
 -- the table of a design has a least cost
 abbrev pub HasLeastCost : Design → List ℕ → Type 0
-HasLeastCost d t = (p : ℕ) × (l : ℕ) × LeastCost (d .n) (d .family) (d .kind) (at t) p l
+HasLeastCost d t = HasLeast (d .n) (d .family) (d .kind) (at t)
 
 -- W-206 of a text that is accepted, with the design d and the table t, and of a choice s of its outputs
 pub record FewerPins (text : List ℕ) (d : Design) (t : List ℕ) (s : ℕ) : Type 0 where

@@ -2,7 +2,7 @@
 -- the listings of `f0` and `f1`, which are those of `0` and `1` with another field.
 use mathlib.Core.List.{List}
 use mathlib.Core.Path.{_≡_}
-use Prim.Native.Nat.{ℕ, suc, _<_}
+use Prim.Native.Nat.{ℕ, suc, _≤_, _<_}
 use lib.ListN.{take}
 use Rattle.numbers.specs.Bytes.{at}
 use Rattle.expansions.specs.declared.families.Family.{Family}
@@ -14,18 +14,24 @@ use Rattle.search.specs.Expansion.{answerExpansion}
 use Rattle.listings.specs.Listing.{fieldsOf, listingWith}
 use Rattle.table_texts.specs.declared.sizes.Design.{Design}
 use Rattle.table_texts.specs.Read.{given, reading}
+use Rattle.table_texts.specs.TableTexts.{tableText}
 use Rattle.text.specs.declared.compile.Compiled.the-variants.{Written}
 use Rattle.text.specs.Compile.{answerListing, Compile}
 use Rattle.text.specs.Print.{Print}
-use Rattle.comparisons.specs.FewerPins.{ListedNoDearer}
+use Rattle.comparisons.specs.FewerPins.{ListedNoDearer, HasLeastCost}
 
 -- the design of the free class with k mixed inputs: "A k field of `f0`, `f1` or `f2`"
 abbrev pub freeDesign : (n m k : ℕ) → Family → Design
 freeDesign n m k family = record { n = n; m = m; kind = Mixed Free k; family = family }
 
--- W-207 of the table t of n inputs and m outputs, for a family: of two accepted texts that mean it, one with a digit more after the `f`, the listing that
+-- W-207 of the table t of n inputs and m outputs, for a family: of two accepted texts that mean it, one with the next digit after the `f`, the listing that
 -- the text call writes for that one costs no more than the other's, and likewise those that the program prints
 pub record WiderFields (n m : ℕ) (family : Family) (t : List ℕ) : Type 0 where
+  -- a table that a text means has a least cost
+  pub least : (k : ℕ) (text : List ℕ) → reading text ≡ given (freeDesign n m k family) t → HasLeastCost (freeDesign n m k family) t
+  -- there is a text with the next digit that means it too, unless this digit is "above 2 or above n"
+  pub next : (k : ℕ) (text : List ℕ) → reading text ≡ given (freeDesign n m k family) t → suc k ≤ 2 → suc k ≤ n
+      → reading (tableText (freeDesign n m (suc k) family) t) ≡ given (freeDesign n m (suc k) family) t
   pub written : (k : ℕ) (text wider : List ℕ) → reading text ≡ given (freeDesign n m k family) t → reading wider ≡ given (freeDesign n m (suc k) family) t
       → (before after before′ after′ : List ℕ) (count count′ : ℕ) → Compile text before after (Written count) → Compile wider before′ after′ (Written count′)
       → ListedNoDearer family (take count′ after′) (take count after)

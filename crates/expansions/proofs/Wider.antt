@@ -1,4 +1,4 @@
--- W-207: one more mixed input in the free class is never dearer (`wider-no-dearer`, `wider`). A rival stays one when an input goes into M, every term with the
+-- W-207: one more mixed input in the free class is never dearer (`wider-no-dearer`, `wider`), and there is a least cost (`free-least`). A rival stays one when an input goes into M, every term with the
 -- polarity that it had (`rival-wider`): what agrees outside M agrees outside a set with one input more (`one-more`).
 use mathlib.Core.Path.{_≡_, refl, sym, ap, _∙_}
 use Prim.Native.Nat.{ℕ, zero, suc, _+_, _-_, _*_, _/_, _%_, _^_, _≤_, _<_}
@@ -12,8 +12,10 @@ use Rattle.expansions.specs.declared.kinds.Kind.the-variants.{Mixed}
 use Rattle.expansions.specs.declared.kinds.Class.the-variants.{Free}
 use Rattle.expansions.specs.Members.{block, InClass}
 use Rattle.expansions.specs.Rules.{NoDearer}
-use Rattle.expansions.specs.Rivals.{Rival, mixed, LeastCost}
+use Rattle.expansions.specs.Rivals.{Rival, mixed, LeastCost, HasLeast}
 use Rattle.expansions.specs.Wider.{WiderNoDearer}
+use Rattle.expansions.proofs.Answers.{answer-minimal}
+use Rattle.expansions.proofs.Rivals.{minimal-least}
 use Rattle.expansions.proofs.Split.{outside-half, outside-low, gather-lt, join-lt, gather-join, gather-outside-join}
 
 -- ---- one input more
@@ -124,5 +126,9 @@ pub wider-no-dearer : (n k : ℕ) (F : Family) (f : ℕ → ℕ) → suc k ≤ n
     → LeastCost n F (Mixed Free k) f p l → LeastCost n F (Mixed Free (suc k)) f p′ l′ → NoDearer F p′ l′ p l
 wider-no-dearer n k F f h p l p′ l′ a b = b .cheapest p l (rival-wider n k f p l h (a .reached))
 
+pub free-least : (n k : ℕ) (F : Family) (f : ℕ → ℕ) → n ≤ 8 → ((p : ℕ) → p < 2 ^ n → f p < 2 ^ 8) → k ≤ 2 → k ≤ n → HasLeast n F (Mixed Free k) f
+free-least n k F f hn bytes few hk = (_, _, minimal-least Free F n k f few _ _ _ _ _ _ _ (answer-minimal Free F n k f hn hk bytes))
+
 pub wider : (n : ℕ) (F : Family) (f : ℕ → ℕ) → WiderNoDearer n F f
-wider n F f = record { f2 = wider-no-dearer n 1 F f; f1 = wider-no-dearer n 0 F f }
+wider n F f =
+    record { least = λ hn bytes k few hk. free-least n k F f hn bytes few hk; f2 = wider-no-dearer n 1 F f; f1 = wider-no-dearer n 0 F f }

@@ -25,3 +25,7 @@ pub data Rival (n : ℕ) (f : ℕ → ℕ) : Kind → (p l : ℕ) → Type 0 whe
 pub record LeastCost (n : ℕ) (family : Family) (kind : Kind) (f : ℕ → ℕ) (p l : ℕ) : Type 0 where
   pub reached : Rival n f kind p l
   pub cheapest : (p′ l′ : ℕ) → Rival n f kind p′ l′ → NoDearer family p l p′ l′
+
+-- there is a least cost
+abbrev pub HasLeast : (n : ℕ) → Family → Kind → (ℕ → ℕ) → Type 0
+HasLeast n family kind f = (p : ℕ) × (l : ℕ) × LeastCost n family kind f p l

@@ -16,8 +16,7 @@ use Rattle.listings.specs.Meaning.{shownField, statedMixed, statedFixed}
 use Rattle.table_texts.specs.declared.sizes.Sizes.{Sizes}
 use Rattle.table_texts.specs.declared.sizes.Design.{Design}
 use Rattle.table_texts.specs.Design.{mixedDesign}
-use Rattle.table_texts.specs.First.{dashKind}
-use Rattle.table_texts.specs.TableTexts.{kindField, designLine}
+use Rattle.table_texts.specs.TableTexts.{dashCharacters, designLine}
 use Rattle.table_texts.proofs.Design.{mixed-sized}
 use Rattle.table_texts.specs.Read as tables
 use Rattle.table_texts.proofs.read.Accepted.{reading-accepted}
@@ -175,6 +174,6 @@ check-words text s r e =
     }
 
 -- "the check resolves a dash like the compiler": beside any listing, a text with `-` for k has the answer of the text with what `-` means written out
-pub dash-checked : (d : Design) (rest s : List ℕ) → d .n < 10 → d .m < 10
-    → checked (tables.reading (designLine d (bytes "-") ++ rest)) s ≡ checked (tables.reading (designLine d (kindField (dashKind (d .n))) ++ rest)) s
-dash-checked d rest s hn hm = ap (λ (x : tables.Reading). checked x s) (dash-written-out d rest hn hm)
+pub dash-checked : (d : Design) (rest s : List ℕ) (r r′ : Checked) → d .n < 10 → d .m < 10 → Check (designLine d (bytes "-") ++ rest) s r
+    → Check (designLine d (dashCharacters (d .n)) ++ rest) s r′ → r ≡ r′
+dash-checked d rest s r r′ hn hm a b = a .answer ∙ ap (λ (x : tables.Reading). checked x s) (dash-written-out d rest hn hm) ∙ sym (b .answer)

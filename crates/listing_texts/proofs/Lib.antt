@@ -9,5 +9,6 @@ pub mod Unlike
 pub mod SecondLine
 pub mod BesideKronecker
 pub mod Length
+pub mod Unshown
 pub mod ReadBack
 pub mod Decided

@@ -1,8 +1,8 @@
 -- A listing that is written for the record of any member is read as that record, as far as its cubes show it, and each product has its polarity back
--- (`record-read`); for an answer's record that is the whole record (`answer-read`).
+-- (`record-read`, `yields-record`); for an answer's record that is the whole record (`answer-read`).
 use mathlib.Core.Bool.{Bool, true, false}
 use mathlib.Core.List.{List}
-use mathlib.Core.Path.{_≡_, refl, sym, ap, _∙_}
+use mathlib.Core.Path.{_≡_, refl, sym, ap, _∙_, subst}
 use Prim.Native.Nat.{ℕ, _-_, _%_, _^_, _≤_, _<_}
 use native.Mathlib.Omega.{arith}
 use borrow.Author.Tests.{lt-ltb, ltb-true, ltb-false, eq-eqb}
@@ -10,6 +10,7 @@ use lib.Bits.{bitAnd}
 use lib.Dec.{ltb}
 use lib.ListN.{length}
 use lib.Pow.{pow-mono}
+use Rattle.numbers.specs.Bits.{bit}
 use Rattle.numbers.specs.Bytes.{at, tabulate}
 use Rattle.numbers.specs.Refusals.{Sized}
 use Rattle.numbers.specs.Tests.{only}
@@ -18,24 +19,41 @@ use Rattle.numbers.proofs.Shifts.{points-le}
 use Rattle.numbers.proofs.Tables.{at-whole}
 use Rattle.expansions.specs.declared.families.Family.{Family}
 use Rattle.expansions.specs.declared.kinds.Class.{Class}
-use Rattle.expansions.specs.Classes.{mostMixed}
-use Rattle.expansions.specs.Members.{place, polarity, shows, shownChoice}
+use Rattle.expansions.specs.Classes.{mostMixed, placePolarity}
+use Rattle.expansions.specs.Members.{block, place, InClass, Member, polarity, shows, shownChoice}
 use Rattle.expansions.proofs.Answers.{answer-coefficient-zero, answer-choice-zero}
-use Rattle.expansions.proofs.ShownChoices.{shown-ext, member-shows, answer-shown}
+use Rattle.expansions.proofs.Blocks.{polarity-inside}
+use Rattle.expansions.proofs.Members.{member-class}
+use Rattle.expansions.proofs.ShownChoices.{shown-ext, member-shows, shown-member, answer-shown}
 use Rattle.membership.proofs.Shown.{shown-past}
 use Rattle.search.specs.declared.expansion.Expansion.{Expansion}
 use Rattle.search.specs.Expansion.{answerExpansion}
 use Rattle.search.proofs.expansion.Answer.{answerExpansion-is, expansion-coefficients, expansion-blocks, expansion-coefficients-lt, expansion-inverted-lt}
 use Rattle.listings.specs.Listing.{listing}
 use Rattle.table_texts.specs.declared.sizes.Sizes.{Sizes}
+use Rattle.listing_texts.specs.declared.read.ListingRead.{ListingRead}
 use Rattle.listing_texts.specs.declared.read.ListingAnswer.the-variants.{Given}
 use Rattle.shown_rows.specs.Rows.{coefficientIn, complementedIn, shownBlocks}
-use Rattle.listing_texts.specs.Read.{ListingReading, listingReading, shown}
+use Rattle.listing_texts.specs.Read.{listingReading, shown}
 use Rattle.listing_texts.specs.Listings.{termListing}
 use Rattle.listing_texts.specs.Record.{shownExpansion, shownRead, handedUp}
-use Rattle.listing_texts.specs.ReadBack.{MemberRecord, memberListing, termPolarities, asShown, HadBack}
+use Rattle.listing_texts.specs.ReadBack.{MemberRecord, memberListing, termPolarities, OnePolarity, HadBack, YieldsRecord}
 use Rattle.listing_texts.proofs.WrittenRows.{writtenRows, row-coefficient, row-complemented}
 use Rattle.listing_texts.proofs.Exactness.{writtenForm, listing-written}
+use Rattle.listing_texts.proofs.Unshown.{unshown-plain}
+
+-- a record "as far as its cubes show it": each block has the choice that its lines show, which is 0 where they show nothing
+unfoldable asShown : Sizes → Expansion → Expansion
+asShown z e =
+    record {
+      coefficients = e .coefficients;
+      blocks = tabulate 256 (shownChoice (z .class) (z .n) (z .k) (e .mixed) (shows (termPolarities z e) (at (e .coefficients))));
+      mixed = e .mixed;
+      fixed = e .fixed;
+      products = e .products;
+      literals = e .literals;
+      inverted = e .inverted;
+    }
 
 coefficients-long : (C : Class) (F : Family) (n k : ℕ) (f : ℕ → ℕ) → length (answerExpansion C F n k f .coefficients) ≡ 256
 unfolding answerExpansion
@@ -106,16 +124,51 @@ module _ (z : Sizes) (e : Expansion) (sized : Sized (z .n) (z .m) (mostMixed (z 
       ap (λ (x : ℕ → ℕ). bitAnd t (polarity (z .class) (z .n) (z .k) (e .mixed) (e .fixed) x t)) at-shown
       ∙ member-shows (z .class) (z .n) (z .k) (e .mixed) (e .fixed) (at (e .blocks)) c (sized .mixed .0) (r .member) t h u
 
-  pub record-read : HadBack z e (handedUp z (listingReading z (memberListing z e)))
-  unfolding handedUp shownRead
-  record-read =
-      let whole : handedUp z (listingReading z (memberListing z e)) .expansion ≡ asShown z e =
-      ap (λ (x : ListingReading). handedUp z x .expansion) record-shown ∙ back in
+  in-class : InClass (z .class) (z .n) (z .k) (e .mixed) (e .fixed) w
+  in-class = member-class (z .class) (z .n) (z .k) (e .mixed) (e .fixed) (at (e .blocks)) (r .member)
+
+  blocks-member : Member (z .class) (z .n) (z .k) (e .mixed) (e .fixed) (at (asShown z e .blocks))
+  blocks-member = rw at-shown (shown-member (z .class) (z .n) (z .k) (e .mixed) (e .fixed) w c (sized .mixed .0) in-class)
+
+  unshown-back : (t b : ℕ) → t < 2 ^ z .n → bit b (place (z .n) (e .mixed) t) ≡ 1
+      → ((s : ℕ) → s < 2 ^ z .n → OnePolarity (z .class) (z .n) (e .mixed) s t → bit b (place (z .n) (e .mixed) s) ≡ 1 → c s ≡ 0)
+      → bit b (place (z .n) (e .mixed) (termPolarities z (asShown z e) t)) ≡ 0
+  unfolding asShown
+  unshown-back t b h literal none =
+      ap (bit b) (polarity-inside (z .class) (z .n) (z .k) (e .mixed) (e .fixed) (at (asShown z e .blocks)) blocks-member t)
+      ∙ ap (λ (x : ℕ → ℕ). bit b (placePolarity (z .class) (z .k) (x (block (z .n) (e .mixed) t)) (place (z .n) (e .mixed) t))) at-shown
+      ∙ unshown-plain (z .class) (z .n) (z .k) (e .mixed) (e .fixed) w c (sized .mixed .0) in-class t b h literal none
+
+  had-back : HadBack z e (record { answer = Given; expansion = asShown z e; complements = tabulate 256 (complementedIn rows) })
+  unfolding asShown
+  had-back =
       record {
-        given = ap (λ (x : ListingReading). handedUp z x .answer) record-shown;
-        expansion = whole;
-        polarities = λ t h u. ap (λ (x : Expansion). bitAnd t (termPolarities z x t)) whole ∙ polarities-back t h u;
+        given = refl;
+        coefficients = refl;
+        mixed = refl;
+        fixed = refl;
+        products-stated = refl;
+        literals-stated = refl;
+        inverted = refl;
+        member = blocks-member;
+        polarities = polarities-back;
+        unshown = unshown-back;
+        rest = λ j h. ap (λ (x : ℕ → ℕ). x j) at-shown ∙ shown-past (z .class) (z .n) (z .k) (e .mixed) _ j (r .member .pair .size) h;
       }
+
+  handed : handedUp z (listingReading z (memberListing z e)) ≡ record { answer = Given; expansion = asShown z e; complements = tabulate 256 (complementedIn rows) }
+  unfolding handedUp shownRead
+  handed =
+      ap (handedUp z) record-shown
+      ∙ ap (λ (x : Expansion). record { answer = Given; expansion = x; complements = tabulate 256 (complementedIn rows) }) back
+
+  pub record-read : HadBack z e (handedUp z (listingReading z (memberListing z e)))
+  record-read = subst (HadBack z e) (sym handed) had-back
+
+-- what is handed up for the bytes of a listing
+pub yields-record : (z : Sizes) (s : List ℕ) (r : ListingRead) → r ≡ handedUp z (listingReading z s) → YieldsRecord z s r
+yields-record z s r handed e sized member written =
+    subst (HadBack z e) (sym (handed ∙ ap (λ (x : List ℕ). handedUp z (listingReading z x)) written)) (record-read z e sized member)
 
 -- ---- an answer
 
@@ -177,5 +230,5 @@ module _ (z : Sizes) (f : ℕ → ℕ) (sized : Sized (z .n) (z .m) (mostMixed (
       × (handedUp z (listingReading z (memberListing z (answerExpansion (z .class) (z .family) (z .n) (z .k) f))) .expansion
       ≡ answerExpansion (z .class) (z .family) (z .n) (z .k) f)
   answer-read =
-      let read = record-read z answer sized answer-record in
-      (read .given, read .expansion ∙ whole)
+      let read = handed z answer sized answer-record in
+      (ap (λ (x : ListingRead). x .answer) read, ap (λ (x : ListingRead). x .expansion) read ∙ whole)

@@ -28,6 +28,7 @@ ghost use Rattle.lines.specs.Rows as rowsRead;
 ghost use Rattle.lines.specs.inner.Steps.{rowsAt, Within};
 ghost use Rattle.listing_texts.specs.Read.{sameFamily, sameClass, alike, linesJudged, grammar, listingReading};
 ghost use Rattle.listing_texts.specs.Record.{shownRead, handedUp};
+ghost use Rattle.listing_texts.specs.ReadBack.{YieldsRecord};
 ghost use Rattle.listing_texts.specs.inner.Judging.{standsFor, secondAt};
 
 // The reading's answer. A refusal has document 02's number and the line in the listing.
@@ -239,9 +240,11 @@ fn shown_listing(
 
 // Reads a listing beside a table with these sizes. It hands up the record that the lines show, mask and all, a polarity that no cube shows being
 // plain, and the inputs that each cube shows complemented. It refuses a bad line by 11, with the line, and a family, a class, sizes or counts that
-// are not the table's or the lines' by 12, with line 1; then the record is the empty one.
+// are not the table's or the lines' by 12, with line 1; then the record is the empty one. The listing of a member's record has that record handed up, as
+// far as its cubes show it.
 pub fn read_listing(sizes: Sizes, listing: &[u8]) -> ListingRead
-    ensures { λ r. ⌜ r ≡ handedUp sizes (listingReading sizes (now (listing .entry))) ⌝ }
+    ensures reading { λ r. ⌜ r ≡ handedUp sizes (listingReading sizes (now (listing .entry))) ⌝ }
+    ensures had_back { λ r. ⌜ YieldsRecord sizes (now (listing .entry)) r ⌝ }
 {
     let mut rows = [0u16; Limits::PLACES];
     match judge_listing(sizes, listing, &mut rows) {

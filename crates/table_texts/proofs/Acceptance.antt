@@ -18,10 +18,14 @@ use Rattle.table_texts.specs.First.{dashKind, kindOf, tableWord}
 use Rattle.table_texts.specs.Design.{DesignSized}
 use Rattle.table_texts.specs.Accepted.{Accepted}
 use Rattle.table_texts.specs.Read.{given, withDesign, judgedFirst, opened, fromSecond, allLines, reading}
-use Rattle.table_texts.specs.TableTexts.{kindField, pointLines, designLine, textWith, tableText, dashDesign, dashText}
+use Rattle.table_texts.specs.TableTexts.{kindField, pointLines, designLine, textWith, tableText, dashText, dashCharacters}
 use Rattle.table_texts.proofs.Design.{design-accepted}
-use Rattle.table_texts.proofs.DesignLine.{kind-dash, kind-said, dash-said, plain-table, plain-said, design-said}
+use Rattle.table_texts.proofs.DesignLine.{sized-digit, kind-dash, kind-said, dash-said, dash-only, plain-table, plain-said, design-said}
 use Rattle.table_texts.proofs.Points.{points-written}
+
+-- the design that a first line with `-` says, with the n, the m and the family of d
+abbrev pub dashDesign : Design → Design
+dashDesign d = record { n = d .n; m = d .m; kind = dashKind (d .n); family = d .family }
 
 pub design-judged : (d : Design) → DesignSized d → judgedFirst (first.Table d) ≡ answer.Given d
 unfolding judgedFirst
@@ -39,11 +43,11 @@ first-read k d rest hn hm e =
 
 -- document 02, W-208: with `-` for k a text means what it means with `f2`, or `f1` where n = 1, and is refused alike, whatever lines follow
 pub dash-written-out : (d : Design) (rest : List ℕ) → d .n < 10 → d .m < 10
-    → reading (designLine d (bytes "-") ++ rest) ≡ reading (designLine d (kindField (dashKind (d .n))) ++ rest)
+    → reading (designLine d (bytes "-") ++ rest) ≡ reading (designLine d (dashCharacters (d .n)) ++ rest)
 unfolding designLine
 dash-written-out d rest hn hm =
     first-read (bytes "-") (dashDesign d) rest hn hm (kind-dash (d .n))
-    ∙ sym (first-read (kindField (dashKind (d .n))) (dashDesign d) rest hn hm (dash-said (d .n)))
+    ∙ sym (first-read (dashCharacters (d .n)) (dashDesign d) rest hn hm (dash-said (d .n)))
 
 pub text-accepted : (k : List ℕ) (d : Design) (t : List ℕ) → kindOf (d .n) k ≡ kind.Is (d .kind) → Accepted d t → reading (textWith k d t) ≡ given d t
 unfolding withDesign textWith
@@ -58,6 +62,8 @@ unfolding tableText
 table-text-accepted d t g =
     text-accepted (kindField (d .kind)) d t (kind-said (d .n) (d .kind) (g .sized .mixed)) g
 
-pub dash-text-accepted : (d : Design) (t : List ℕ) → Accepted d t → d .kind ≡ dashKind (d .n) → reading (dashText d t) ≡ given d t
+pub dash-text-accepted : (d : Design) (t : List ℕ) → Accepted d t → kindField (d .kind) ≡ dashCharacters (d .n) → reading (dashText d t) ≡ given d t
 unfolding dashText
-dash-text-accepted d t g e = text-accepted (bytes "-") d t (kind-dash (d .n) ∙ ap kind.Is (sym e)) g
+dash-text-accepted d t g e =
+    let means : d .kind ≡ dashKind (d .n) = dash-only (d .n) (d .kind) (sized-digit (d .n) (d .kind) (g .sized .mixed)) e in
+    text-accepted (bytes "-") d t (kind-dash (d .n) ∙ ap kind.Is (sym means)) g

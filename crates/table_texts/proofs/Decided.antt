@@ -29,8 +29,8 @@ use Rattle.table_texts.specs.declared.sizes.Design.{Design}
 use Rattle.table_texts.specs.Design.{KindSized, KindFor, DesignSized}
 use Rattle.table_texts.specs.First.{tableWord, firstLine}
 use Rattle.table_texts.specs.Accepted.{Table, Accepted}
-use Rattle.table_texts.specs.TableTexts.{pointLine, pointLines, kindField, designLine, textWith, tableText, dashText, IsText}
-use Rattle.table_texts.specs.Refusals.{KindSays, TableLine, PointsPass, NoOn, TextRefusals}
+use Rattle.table_texts.specs.TableTexts.{pointLine, pointLines, kindField, KindCharacters, designLine, textWith, tableText, dashText, IsText}
+use Rattle.table_texts.specs.Refusals.{TableLine, PointsPass, NoOn, TextRefusals}
 use Rattle.table_texts.proofs.DesignLine.{plain-table, plain-said, design-said}
 use Rattle.table_texts.proofs.Points.{table-held}
 use Rattle.table_texts.proofs.Refusals.{kind-says, line-said}
@@ -129,8 +129,8 @@ module _ (s : List ℕ) (P : ℕ → ℕ → Type 0) (words : TextRefusals s P) 
       written : c .rest ≡ endLine → (k : List ℕ) → g .kind-field ≡ k → s ≡ designLine d k ++ pointLines (d .m) (at (c .values)) (2 ^ d .n) ++ endLine
       written e k h = joined ∙ ap₂ (λ (k r : List ℕ). designLine d k ++ pointLines (d .m) (at (c .values)) (2 ^ d .n) ++ r) h e
 
-      text-is : c .rest ≡ endLine → KindSays (d .n) (d .kind) (g .kind-field) → IsText s d (c .values)
-      text-is e (inl h) = inl (written e (kindField (d .kind)) (h .1))
+      text-is : c .rest ≡ endLine → KindCharacters (d .n) (d .kind) (g .kind-field) → IsText s d (c .values)
+      text-is e (inl h) = inl (written e (kindField (d .kind)) h)
       text-is e (inr h) = inr (h .0, written e (bytes "-") (h .1))
 
       begun : (r : List ℕ) → c .rest ≡ r → NoOn (d .m) (c .rest) → NoEnd (c .rest) → Outcome s P
@@ -139,7 +139,7 @@ module _ (s : List ℕ) (P : ℕ → ℕ → Type 0) (words : TextRefusals s P) 
           inr (1, lineAfter (pass .before), words .line pass (λ z. omega (arith, ap length (sym e ∙ z))) none unended)
 
       go : Follows (d .n) (rowLine (tableGrammar (d .n) (d .m))) (bytes "on") fields (OnLine (d .m)) (table-kind (d .n) (d .m)) low (c .values) (c .rest) → Outcome s P
-      go (Follows.ends e) = inl (d, c .values, record { sized = sized; table = table }, text-is e (g .says))
+      go (Follows.ends e) = inl (d, c .values, record { sized = sized; table = table }, text-is e (g .says .1))
       go (Follows.begins none unended) = begun (c .rest) refl none unended
       go (Follows.misplaced p o more value none e) = inr (5, lineAfter (pass .before), words .point pass p o more value e none)
       go (Follows.continues b more e) = inr (6, lineAfter (pass .before ++ endLine), words .follows pass b more e)

@@ -1,9 +1,9 @@
 -- The first line of a table text. It is read as the design that it was written for (`design-said`), and a line that says a design is the line that
 -- is written for it, with the characters of its kind of k, or where this is what `-` means with `-` (`design-read`, `kind-read`). What `-` means is `f1` or
--- `f2` (`dash-characters`). With `table2` and `K` a line is refused by 1 (`kronecker-two`).
+-- `f2` (`dash-characters`), and nothing else (`dash-only`). With `table2` and `K` a line is refused by 1 (`kronecker-two`).
 use mathlib.Core.Bool.{Bool, true, false, cond}
 use mathlib.Core.List.{List, [], _∷_, _++_}
-use mathlib.Core.Logic.{_⊎_, inl, inr}
+use mathlib.Core.Logic.{inl, inr}
 use mathlib.Core.Path.{_≡_, refl, sym, ap, ap₂, subst, _∙_}
 use Prim.Native.Nat.{ℕ, _<_}
 use native.Mathlib.Omega.{arith}
@@ -39,10 +39,15 @@ use Rattle.table_texts.specs.declared.read.ReadAnswer.the-variants as an
 use Rattle.table_texts.specs.Design.{designRefusal, KindSized}
 use Rattle.table_texts.specs.First.{mixedKind, dashKind, kindOf, kindThen, tableLine, tableWord, firstLine}
 use Rattle.table_texts.specs.Read.{judgedFirst}
-use Rattle.table_texts.specs.TableTexts.{kindField}
+use Rattle.table_texts.specs.TableTexts.{kindField, dashCharacters, KindCharacters}
 use Rattle.table_texts.specs.Refusals.{OneDigit}
 
 -- ---- the kind of k
+
+-- within the limits a kind has one digit
+pub sized-digit : (n : ℕ) (x : Kind) → KindSized n x → OneDigit x
+sized-digit n (Mixed C k) s = omega (arith, s .0, most-three C)
+sized-digit n Kronecker s = tt
 
 -- a field that says a class and its k is not a word that says none
 other-than : (w f : List ℕ) (C : Class) (k : ℕ) → mixedSaid w ≡ mixed.Wrong → mixedSaid f ≡ mixed.Is C k → same f w ≡ false
@@ -70,26 +75,36 @@ unfolding kindOf same bytes
 kind-kronecker n = refl
 
 -- the characters that are written for a kind say it
-pub kind-said : (n : ℕ) (x : Kind) → KindSized n x → kindOf n (kindField x) ≡ kind.Is x
+pub kind-written : (n : ℕ) (x : Kind) → OneDigit x → kindOf n (kindField x) ≡ kind.Is x
 unfolding kindField
-kind-said n (Mixed C k) s = kind-mixed n C k (omega (arith, s .0, most-three C))
-kind-said n Kronecker s = kind-kronecker n
+kind-written n (Mixed C k) l = kind-mixed n C k l
+kind-written n Kronecker l = kind-kronecker n
 
--- and so do those for what `-` means, whether or not it is within the limits
-pub dash-said : (n : ℕ) → kindOf n (kindField (dashKind n)) ≡ kind.Is (dashKind n)
-unfolding kindField dashKind
-dash-said n = go (eqb n 1) where
-  go : (t : Bool) → kindOf n (mixedField Free (cond t 1 2)) ≡ kind.Is (Mixed Free (cond t 1 2))
-  go true = kind-mixed n Free 1 (lit< tt)
-  go false = kind-mixed n Free 2 (lit< tt)
+pub kind-said : (n : ℕ) (x : Kind) → KindSized n x → kindOf n (kindField x) ≡ kind.Is x
+kind-said n x s = kind-written n x (sized-digit n x s)
 
 -- "`f2`, or `f1` where n = 1", in characters
-pub dash-characters : (n : ℕ) → kindField (dashKind n) ≡ cond (eqb n 1) (bytes "f1") (bytes "f2")
-unfolding kindField dashKind mixedField mixedMark decimal descending digitCount bytes
+pub dash-characters : (n : ℕ) → kindField (dashKind n) ≡ dashCharacters n
+unfolding kindField dashKind dashCharacters mixedField mixedMark decimal descending digitCount bytes
 dash-characters n = go (eqb n 1) where
   go : (t : Bool) → mixedField Free (cond t 1 2) ≡ cond t (bytes "f1") (bytes "f2")
   go true = refl
   go false = refl
+
+dash-digit : (n : ℕ) → OneDigit (dashKind n)
+unfolding dashKind
+dash-digit n = go (eqb n 1) where
+  go : (t : Bool) → cond t 1 2 < 10
+  go true = lit< tt
+  go false = lit< tt
+
+-- they say what `-` means, whether or not it is within the limits, and are those of no other kind
+pub dash-said : (n : ℕ) → kindOf n (dashCharacters n) ≡ kind.Is (dashKind n)
+dash-said n = ap (kindOf n) (sym (dash-characters n)) ∙ kind-written n (dashKind n) (dash-digit n)
+
+pub dash-only : (n : ℕ) (x : Kind) → OneDigit x → kindField x ≡ dashCharacters n → x ≡ dashKind n
+dash-only n x l h =
+    let both : kind.Is x ≡ kind.Is (dashKind n) = sym (kind-written n x l) ∙ ap (kindOf n) h ∙ dash-said n in cc
 
 wrong-kind : {x : Kind} → kind.Wrong ≡ kind.Is x → ⊥
 wrong-kind e = let z : _≡_ {A = ℕ} 0 1 = cc in omega arith
@@ -102,13 +117,14 @@ class-read f x (mixed.Is C k) h e =
 class-read f x mixed.Wrong h e = absurd (wrong-kind e)
 
 -- characters that say a kind are those that are written for it, or `-` where it means this kind
-pub kind-read : (n : ℕ) (f : List ℕ) (x : Kind) → kindOf n f ≡ kind.Is x → (f ≡ kindField x) ⊎ ((x ≡ dashKind n) × (f ≡ bytes "-"))
+pub kind-read : (n : ℕ) (f : List ℕ) (x : Kind) → kindOf n f ≡ kind.Is x → KindCharacters n x f
 unfolding kindOf kindField
 kind-read n f x e = go (same f (bytes "-")) refl (same f (bytes "K")) refl e where
   go : (t : Bool) → same f (bytes "-") ≡ t → (u : Bool) → same f (bytes "K") ≡ u
-      → cond t (kind.Is (dashKind n)) (cond u (kind.Is Kronecker) (mixedKind (mixedSaid f))) ≡ kind.Is x
-      → (f ≡ kindField x) ⊎ ((x ≡ dashKind n) × (f ≡ bytes "-"))
-  go true h u k g = inr (cc, same-equal f (bytes "-") h)
+      → cond t (kind.Is (dashKind n)) (cond u (kind.Is Kronecker) (mixedKind (mixedSaid f))) ≡ kind.Is x → KindCharacters n x f
+  go true h u k g =
+      let is : dashKind n ≡ x = cc in
+      inr (ap kindField (sym is) ∙ dash-characters n, same-equal f (bytes "-") h)
   go false h true k g =
       let is : Kronecker ≡ x = cc in
       inl (same-equal f (bytes "K") k ∙ ap kindField is)
@@ -122,13 +138,12 @@ class-digit f x mixed.Wrong h e = absurd (wrong-kind e)
 
 -- and where the kind has a k it is one digit
 pub kind-digit : (n : ℕ) (f : List ℕ) (x : Kind) → kindOf n f ≡ kind.Is x → OneDigit x
-unfolding kindOf dashKind
-kind-digit n f x e = go (same f (bytes "-")) (same f (bytes "K")) (eqb n 1) e where
-  go : (t u v : Bool) → cond t (kind.Is (Mixed Free (cond v 1 2))) (cond u (kind.Is Kronecker) (mixedKind (mixedSaid f))) ≡ kind.Is x → OneDigit x
-  go true u true g = let is : Mixed Free 1 ≡ x = cc in subst OneDigit is (lit< tt)
-  go true u false g = let is : Mixed Free 2 ≡ x = cc in subst OneDigit is (lit< tt)
-  go false true v g = let is : Kronecker ≡ x = cc in subst OneDigit is tt
-  go false false v g = class-digit f x (mixedSaid f) refl g
+unfolding kindOf
+kind-digit n f x e = go (same f (bytes "-")) (same f (bytes "K")) e where
+  go : (t u : Bool) → cond t (kind.Is (dashKind n)) (cond u (kind.Is Kronecker) (mixedKind (mixedSaid f))) ≡ kind.Is x → OneDigit x
+  go true u g = let is : dashKind n ≡ x = cc in subst OneDigit is (dash-digit n)
+  go false true g = let is : Kronecker ≡ x = cc in subst OneDigit is tt
+  go false false g = class-digit f x (mixedSaid f) refl g
 
 -- ---- what is written is read
 
@@ -153,7 +168,7 @@ plain-kind Kronecker = (lit< tt, tt)
 -- the characters that say a kind are free of separators
 pub plain-said : (n : ℕ) (f : List ℕ) (x : Kind) → kindOf n f ≡ kind.Is x → Plain f
 plain-said n f x e = go (kind-read n f x e) where
-  go : (f ≡ kindField x) ⊎ ((x ≡ dashKind n) × (f ≡ bytes "-")) → Plain f
+  go : KindCharacters n x f → Plain f
   go (inl h) = rw h (plain-kind x)
   go (inr h) = rw (h .1) plain-dash
 

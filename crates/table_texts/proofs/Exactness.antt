@@ -1,7 +1,7 @@
 -- An accepted text is the text that is written for its own design and its own table, with the characters of its kind of k, or where this is what `-`
 -- means with `-` (`accepted-text`). So just these texts are accepted (`accepted-exactly`).
 use mathlib.Core.List.{List, [], _∷_, _++_, append-assoc}
-use mathlib.Core.Logic.{_⊎_, inl, inr, _↔_}
+use mathlib.Core.Logic.{inl, inr, _↔_}
 use mathlib.Core.Path.{_≡_, sym, ap, ap₂, refl, subst, _∙_}
 use Prim.Native.Nat.{ℕ, _^_, _≤_, _<_}
 use Rattle.numbers.specs.Bytes.{at}
@@ -14,11 +14,11 @@ use Rattle.table_texts.specs.declared.first.FirstLine.{FirstLine}
 use Rattle.table_texts.specs.declared.read.ReadAnswer.the-variants as answer
 use Rattle.table_texts.specs.declared.read.ReadAnswer.{ReadAnswer}
 use Rattle.table_texts.specs.declared.sizes.Design.{Design}
-use Rattle.table_texts.specs.First.{dashKind, kindOf, tableWord, firstLine}
+use Rattle.table_texts.specs.First.{kindOf, tableWord, firstLine}
 use Rattle.table_texts.specs.Design.{designRefusal}
 use Rattle.table_texts.specs.Accepted.{Accepted}
 use Rattle.table_texts.specs.Read.{given, judgedFirst, opened, fromSecond, allLines, reading}
-use Rattle.table_texts.specs.TableTexts.{kindField, pointLines, designLine, textWith, tableText, dashText, IsText}
+use Rattle.table_texts.specs.TableTexts.{kindField, KindCharacters, pointLines, designLine, textWith, tableText, dashText, IsText}
 use Rattle.table_texts.proofs.read.Accepted.{no-refusal, with-given, refused-given, first-sized, reading-accepted, design-given}
 use Rattle.table_texts.proofs.Acceptance.{first-read, table-text-accepted, dash-text-accepted}
 use Rattle.table_texts.proofs.DesignLine.{kind-read, design-read}
@@ -88,13 +88,12 @@ pub accepted-text : (s : List ℕ) (d : Design) (t : List ℕ) → reading s ≡
     → IsText s d t
 unfolding tableText dashText
 accepted-text s d t e = go (text-read s d t e) where
-  go : TextRead s d t → (s ≡ textWith (kindField (d .kind)) d t) ⊎ ((d .kind ≡ dashKind (d .n)) × (s ≡ textWith (bytes "-") d t))
+  go : TextRead s d t → IsText s d t
   go r = either (kind-read (d .n) (r .kind-field) (d .kind) (r .said)) where
     written : (k : List ℕ) → r .kind-field ≡ k → s ≡ textWith k d t
     written k h = r .characters ∙ ap (λ (k : List ℕ). textWith k d t) h
 
-    either : (r .kind-field ≡ kindField (d .kind)) ⊎ ((d .kind ≡ dashKind (d .n)) × (r .kind-field ≡ bytes "-"))
-        → (s ≡ textWith (kindField (d .kind)) d t) ⊎ ((d .kind ≡ dashKind (d .n)) × (s ≡ textWith (bytes "-") d t))
+    either : KindCharacters (d .n) (d .kind) (r .kind-field) → IsText s d t
     either (inl h) = inl (written (kindField (d .kind)) h)
     either (inr h) = inr (h .0, written (bytes "-") (h .1))
 

@@ -1,7 +1,7 @@
 -- The refusals of table texts in the documents' words (`text-refusals`).
 use mathlib.Core.Bool.{Bool, true, false, _&&_}
 use mathlib.Core.List.{List, [], _∷_, _++_, append-assoc}
-use mathlib.Core.Logic.{_⊎_, inl, inr}
+use mathlib.Core.Logic.{inl, inr}
 use mathlib.Core.Path.{_≡_, refl, sym, ap, _∙_}
 use Prim.Native.Nat.{ℕ, suc, _^_, _≤_, _<_}
 use native.Mathlib.Decide.{decLt}
@@ -33,29 +33,21 @@ use Rattle.table_texts.specs.declared.first.FirstLine.{FirstLine}
 use Rattle.table_texts.specs.declared.first.FirstLine.the-variants as first
 use Rattle.table_texts.specs.declared.sizes.Design.{Design}
 use Rattle.table_texts.specs.Design.{kindRefusal, designRefusal, KindSized, KindFor}
-use Rattle.table_texts.specs.First.{dashKind, kindOf, tableWord, firstLine}
+use Rattle.table_texts.specs.First.{kindOf, tableWord, firstLine}
 use Rattle.table_texts.specs.Read.{refused, withDesign, judgedFirst, allLines, reading}
-use Rattle.table_texts.specs.TableTexts.{pointLine, pointLines, kindField, designLine}
-use Rattle.table_texts.specs.Refusals.{OneDigit, KindSays, TableLine, PointsPass, NoOn, TextRefusals}
+use Rattle.table_texts.specs.TableTexts.{pointLine, pointLines, designLine}
+use Rattle.table_texts.specs.Refusals.{KindSays, TableLine, PointsPass, NoOn, TextRefusals}
 use Rattle.table_texts.proofs.Acceptance.{design-judged, first-read}
-use Rattle.table_texts.proofs.DesignLine.{kind-mixed, kind-dash, kind-kronecker, kind-read, kind-digit, plain-table, plain-said, design-read}
+use Rattle.table_texts.proofs.DesignLine.{kind-dash, kind-written, dash-only, kind-read, kind-digit, plain-table, plain-said, design-read}
 
 -- ---- the field k
 
-kind-written : (n : ℕ) (x : Kind) → OneDigit x → kindOf n (kindField x) ≡ kind.Is x
-unfolding kindField
-kind-written n (Mixed C k) l = kind-mixed n C k l
-kind-written n Kronecker l = kind-kronecker n
-
 pub kind-says : (n : ℕ) (x : Kind) (f : List ℕ) → KindSays n x f → kindOf n f ≡ kind.Is x
-kind-says n x f (inl h) = ap (kindOf n) (h .1) ∙ kind-written n x (h .0)
-kind-says n x f (inr h) = ap (kindOf n) (h .1) ∙ kind-dash n ∙ ap kind.Is (sym (h .0))
+kind-says n x f (l, inl h) = ap (kindOf n) h ∙ kind-written n x l
+kind-says n x f (l, inr h) = ap (kindOf n) (h .1) ∙ kind-dash n ∙ ap kind.Is (sym (dash-only n x l (h .0)))
 
 said-kind : (n : ℕ) (x : Kind) (f : List ℕ) → kindOf n f ≡ kind.Is x → KindSays n x f
-said-kind n x f e = go (kind-read n f x e) where
-  go : (f ≡ kindField x) ⊎ ((x ≡ dashKind n) × (f ≡ bytes "-")) → KindSays n x f
-  go (inl h) = inl (kind-digit n f x e, h)
-  go (inr h) = inr h
+said-kind n x f e = (kind-digit n f x e, kind-read n f x e)
 
 -- ---- the first line
 

@@ -1,17 +1,14 @@
 -- When a table text is refused, and by which number and line, in the documents' words. Document 01, "Why a call declines": "Text is judged line by line, and
 -- the first bad line counts. A refusal returns its number and the line"; "In line 1 the order is 1, 2, 3, 4. Empty text is refusal 6, line 1."
 use mathlib.Core.List.{List, [], _∷_, _++_}
-use mathlib.Core.Logic.{_⊎_}
 use mathlib.Core.Path.{_≡_}
 use Prim.Native.Nat.{ℕ, _^_, _≤_, _<_}
 use Rattle.expansions.specs.declared.kinds.Kind.{Kind}
 use Rattle.expansions.specs.declared.kinds.Kind.the-variants.{Mixed, Kronecker}
-use Rattle.listings.specs.Parts.{bytes}
 use Rattle.lines.specs.FirstBad.{lineAfter, Above, endLine, NoEnd, OnLine}
 use Rattle.table_texts.specs.declared.sizes.Design.{Design}
 use Rattle.table_texts.specs.Design.{KindSized, KindFor, DesignSized}
-use Rattle.table_texts.specs.First.{dashKind}
-use Rattle.table_texts.specs.TableTexts.{pointLine, pointLines, kindField, designLine}
+use Rattle.table_texts.specs.TableTexts.{KindCharacters, pointLine, pointLines, designLine}
 
 -- ---- the first line
 
@@ -20,9 +17,9 @@ abbrev pub OneDigit : Kind → Type 0
 OneDigit (Mixed C k) = k < 10
 OneDigit Kronecker = Unit
 
--- the characters f stand for the kind x of k on a first line with the digit n: a digit, `f` and a digit, or `K`; and "k may be `-`"
+-- the characters f stand for the kind x of k on a first line with the digit n: a digit, `f` and a digit, `K`, or `-`
 abbrev pub KindSays : ℕ → Kind → List ℕ → Type 0
-KindSays n x f = (OneDigit x × (f ≡ kindField x)) ⊎ ((x ≡ dashKind n) × (f ≡ bytes "-"))
+KindSays n x f = OneDigit x × KindCharacters n x f
 
 -- the text s begins with "`table`, n, m, k", or `table2`, whatever the digits are and whatever follows
 pub record TableLine (s : List ℕ) : Type 0 where

@@ -1,10 +1,12 @@
 -- The text that is written for a design and its table. Document 01, "Text in, listing out": "A table text is: `table`, n, m, k ..;
 -- lines `on`, point, outputs ..; `end`."; document 02, W-203: or `table2`. Its lines, its numbers in base ten and its outputs are those of a
 -- listing.
+use mathlib.Core.Bool.{cond}
 use mathlib.Core.List.{List, [], _∷_, _++_}
 use mathlib.Core.Logic.{_⊎_}
 use mathlib.Core.Path.{_≡_}
 use Prim.Native.Nat.{ℕ, _^_}
+use lib.Dec.{eqb}
 use Rattle.numbers.specs.Bytes.{at}
 use Rattle.numbers.specs.Nonzero.{overNonzero}
 use Rattle.expansions.specs.declared.kinds.Kind.{Kind}
@@ -12,7 +14,7 @@ use Rattle.expansions.specs.declared.kinds.Kind.the-variants.{Mixed, Kronecker}
 use Rattle.table_texts.specs.declared.sizes.Design.{Design}
 use Rattle.listings.specs.Parts.{bytes}
 use Rattle.listings.specs.Listing.{line, decimal, outputBytes, mixedField}
-use Rattle.table_texts.specs.First.{dashKind, tableWord}
+use Rattle.table_texts.specs.First.{tableWord}
 
 -- "`on`, point, outputs": the point p with the outputs o, of m outputs
 unfoldable pub pointLine : ℕ → ℕ → ℕ → List ℕ
@@ -28,6 +30,14 @@ unfoldable pub kindField : Kind → List ℕ
 kindField (Mixed C k) = mixedField C k
 kindField Kronecker = bytes "K"
 
+-- document 02, W-208: "A k of `-` now means `f2`, or `f1` where n = 1.": the characters of the field that `-` means, of n inputs
+unfoldable pub dashCharacters : ℕ → List ℕ
+dashCharacters n = cond (eqb n 1) (bytes "f1") (bytes "f2")
+
+-- the characters f stand for the kind x of k, of n inputs: they are its own, or "k may be `-`" where this means it
+abbrev pub KindCharacters : ℕ → Kind → List ℕ → Type 0
+KindCharacters n x f = (f ≡ kindField x) ⊎ ((kindField x ≡ dashCharacters n) × (f ≡ bytes "-"))
+
 -- "`table`, n, m, k": the first line with the family's word and the given characters for k
 unfoldable pub designLine : Design → List ℕ → List ℕ
 designLine d k = line (tableWord (d .family)) (decimal (d .n) ∷ decimal (d .m) ∷ k ∷ [])
@@ -40,14 +50,10 @@ textWith k d t = designLine d k ++ pointLines (d .m) (at t) (2 ^ d .n) ++ line (
 unfoldable pub tableText : Design → List ℕ → List ℕ
 tableText d t = textWith (kindField (d .kind)) d t
 
--- the design that a first line with `-` says, with the n, the m and the family of d
-abbrev pub dashDesign : Design → Design
-dashDesign d = record { n = d .n; m = d .m; kind = dashKind (d .n); family = d .family }
-
 -- "k may be `-`": the text with `-` for k
 unfoldable pub dashText : Design → List ℕ → List ℕ
 dashText d t = textWith (bytes "-") d t
 
 -- s is the text for the design d and the table t, with the characters of its kind of k, or with `-` where this means it
 abbrev pub IsText : List ℕ → Design → List ℕ → Type 0
-IsText s d t = (s ≡ tableText d t) ⊎ ((d .kind ≡ dashKind (d .n)) × (s ≡ dashText d t))
+IsText s d t = (s ≡ tableText d t) ⊎ ((kindField (d .kind) ≡ dashCharacters (d .n)) × (s ≡ dashText d t))

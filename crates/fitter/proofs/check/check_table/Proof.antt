@@ -23,7 +23,7 @@ returns : tie.Need-returns
 returns c =
     let call = c .before .before .before in
     let a = call .before .before .args in
-    let read = call .read-listing .ensures in
+    let read = call .read-listing .ensures .0 in
     let told = sym (ap (λ (x : ListingRead). x .answer) read) ∙ c .before .enum-told .given .1 in
     c .judge-read .ensures ∙ ap (judgedRecord (a .sizes) (a .table .now)) read ∙ record-judged (a .sizes) (a .table .now) (a .listing .now) _ refl told
 
@@ -31,7 +31,7 @@ returns-2 : tie.Need-returns-2
 returns-2 c =
     let call = c .before .before .before in
     let a = call .before .before .args in
-    let told = sym (ap (λ (x : ListingRead). x .answer) (call .read-listing .ensures)) ∙ c .before .answer .given .1 in
+    let told = sym (ap (λ (x : ListingRead). x .answer) (call .read-listing .ensures .0)) ∙ c .before .answer .given .1 in
     refused-judged (a .sizes) (a .table .now) (a .listing .now) _ _ _ told
 
 pub check-table-spec : {M : Type 1} → statement M
