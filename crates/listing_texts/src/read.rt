@@ -168,13 +168,13 @@ fn judge_from_second(
     if to == listing.len() {
         return Judged::Refused {
             number: 11,
-            line: 2,
+            line: stop.line,
         };
     }
     let Number::Is(inverted) = inv_line(sizes.m, &listing[from..to]) else {
         return Judged::Refused {
             number: 11,
-            line: 2, // the line is there, and broken
+            line: stop.line, // the line is there, and broken
         };
     };
     judge_terms(listing, stop.next_line(), sizes, form, inverted, rows)
@@ -190,19 +190,19 @@ fn judge_listing(sizes: Sizes, listing: &[u8], rows: &mut [u16; PLACES]) -> Judg
     if to == listing.len() {
         return Judged::Refused {
             number: 11,
-            line: 1,
+            line: stop.line,
         };
     }
     let FirstLine::States(form) = first_line(&listing[..to]) else {
         return Judged::Refused {
             number: 11,
-            line: 1,
+            line: stop.line,
         };
     };
     if !alike(sizes, form.sizes) {
         return Judged::Refused {
             number: 12, // before any later line is read
-            line: 1,
+            line: stop.line,
         };
     }
     judge_from_second(listing, stop.next_line(), sizes, form, rows)
