@@ -6,12 +6,11 @@ use Rattle.numbers.specs.Bytes.{at}
 use Rattle.transform_calls.specs.Calls.{transformRefusal, transformed}
 use Rattle.transform_calls.specs.declared.calls.Transformed.{Transformed}
 use Rattle.transform_calls.specs.declared.calls.Transformed.the-variants.{Done, Refused}
-use Rattle.expansions.specs.declared.families.Family.{Family}
-use Rattle.expansions.specs.declared.families.Family.the-variants.{One, Two}
-use Rattle.expansions.specs.declared.kinds.Class.{Class}
-use Rattle.expansions.specs.declared.kinds.Class.the-variants.{Block, Free}
+use Rattle.expansions.specs.declared.families.Family.the-variants.{One}
+use Rattle.expansions.specs.declared.kinds.Class.the-variants.{Block}
 use Rattle.expansions.specs.declared.kinds.Kind.{Kind}
 use Rattle.expansions.specs.declared.kinds.Kind.the-variants.{Mixed, Kronecker}
+use Rattle.expansions.specs.Numbered.{classNumber, familyNumber}
 use Rattle.minimise_calls.specs.Calls as minimising
 use Rattle.search.specs.Expansion.{answerExpansion}
 use Rattle.minimise_calls.specs.declared.calls.Minimised.{Minimised}
@@ -42,20 +41,10 @@ unfoldable pub minimumNumbers : Minimised → List ℕ
 minimumNumbers (minimised.Found M i products literals inverted) = 0 ∷ 0 ∷ M ∷ i ∷ products ∷ literals ∷ inverted ∷ []
 minimumNumbers (minimised.Refused number line) = number ∷ line ∷ 0 ∷ 0 ∷ 0 ∷ 0 ∷ 0 ∷ []
 
--- the kind of k of a class: 1 for a digit, and 3 for an `f` field or `-`
-unfoldable pub classNumber : Class → ℕ
-classNumber Block = 1
-classNumber Free = 3
-
 -- k and "the kind of k": that of its class where k is a number, and 2 with k = 0 for `K`
 abbrev pub kindNumbers : Kind → List ℕ
 kindNumbers (Mixed C k) = k ∷ classNumber C ∷ []
 kindNumbers Kronecker = 0 ∷ 2 ∷ []
-
--- "the family too": 1 for `table`, and 2 for `table2`
-unfoldable pub familyNumber : Family → ℕ
-familyNumber One = 1
-familyNumber Two = 2
 
 -- "returns n, m, k", "returns the kind of k", and "returns the family too", after the number and the line
 unfoldable pub designNumbers : Design → List ℕ

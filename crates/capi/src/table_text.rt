@@ -1,8 +1,8 @@
 // The reading call and the text call. The reading call's answer is seven numbers: the refusal's number and its line, n, m, k, the kind of k and
 // the family. The text call's answer is three: the refusal's number and its line, and the listing's length.
-use expansions::families::Family;
-use expansions::kinds::Class;
 use expansions::kinds::Kind;
+use expansions::numbered::class_number;
+use expansions::numbered::family_number;
 use table_texts::read::ReadAnswer;
 use table_texts::sizes::Design;
 use text::compile::Compiled;
@@ -14,27 +14,7 @@ ghost use Rattle.table_texts.specs.declared.read.ReadAnswer.{ReadAnswer};
 ghost use Rattle.table_texts.specs.Read.{reading, lent, standsFor, tableAfter, ReadTable};
 ghost use Rattle.text.specs.declared.compile.Compiled.{Compiled};
 ghost use Rattle.text.specs.Compile.{compiled, Compile};
-ghost use Rattle.capi.specs.Answers.{classNumber, familyNumber, designNumbers, readNumbers, listingNumbers};
-
-// The number that stands for a family: 1 for `table`, and 2 for `table2`.
-fn family_number(family: Family) -> u64
-    ensures { λ r. ⌜ r ≡ familyNumber family ⌝ }
-{
-    match family {
-        Family::One => 1,
-        Family::Two => 2,
-    }
-}
-
-// The kind of k of a class: 1 for a digit, and 3 for an `f` field or `-`.
-fn class_number(class: Class) -> u64
-    ensures { λ r. ⌜ r ≡ classNumber class ⌝ }
-{
-    match class {
-        Class::Block => 1,
-        Class::Free => 3,
-    }
-}
+ghost use Rattle.capi.specs.Answers.{designNumbers, readNumbers, listingNumbers};
 
 // The numbers that stand for a design that was read. The kind is that of the class where k is a number, and 2 with k = 0 for `K`.
 fn design_numbers(design: Design) -> [u64; 7]

@@ -2,6 +2,7 @@ pub mod Split
 pub mod ClosedUp
 pub mod Costs
 pub mod Classes
+pub mod Numbered
 pub mod Members
 pub mod Rules
 pub mod Least

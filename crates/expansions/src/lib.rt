@@ -3,3 +3,4 @@
 // proofs/kronecker/Answers): the function's result is the expansion that gives the table and comes first, and the only one.
 pub mod families;
 pub mod kinds;
+pub mod numbered;

@@ -22,11 +22,11 @@ use Rattle.fields.specs.declared.values.Cube.the-variants as cubes
 use Rattle.lines.specs.declared.rows.Grammar.{Grammar}
 use Rattle.lines.specs.declared.rows.Kind.{Kind}
 use Rattle.lines.specs.declared.rows.Kind.the-variants.{Table, Listing}
-use Rattle.lines.specs.declared.rows.RowLine.{RowLine}
 use Rattle.lines.specs.declared.rows.RowLine.the-variants.{Row, End, Wrong}
 use Rattle.fields.specs.Fields.{andThen, headed, number, outputs}
 use Rattle.fields.specs.Cubes.{cubeSaid}
-use Rattle.lines.specs.Rows.{tableGrammar, listingGrammar, onRow, cubeThen, termRow, ofKind, rowLine}
+use Rattle.lines.specs.Rows.{tableGrammar, listingGrammar, rowSaid, pointSaid, onRow, termRow, ofKind, rowLine}
+use Rattle.lines.specs.inner.Steps.{SmallRow}
 use Rattle.lines.specs.FirstBad.{OnLine}
 use Rattle.fields.proofs.Numbers.{outputs-lt}
 use Rattle.fields.proofs.Written.{number-decimal, outputs-written}
@@ -46,15 +46,6 @@ end-row e = let z : _≡_ {A = ℕ} 0 1 = cc in omega arith
 pub wrong-end : Wrong ≡ End → ⊥
 wrong-end e = let z : _≡_ {A = ℕ} 0 1 = cc in omega arith
 
--- a row that is said under a test: the test passes
-under-test : (t : Bool) (x : RowLine) (p v : ℕ) → cond t x Wrong ≡ Row p v → (t ≡ true) × (x ≡ Row p v)
-under-test true x p v e = (refl, e)
-under-test false x p v e = absurd (wrong-row e)
-
-never-end : (t : Bool) (x : RowLine) → (x ≡ End → ⊥) → cond t x Wrong ≡ End → ⊥
-never-end true x h e = h e
-never-end false x h e = wrong-end e
-
 -- a line that says a row is not `end`
 row-line : (g : Grammar) (l : List ℕ) (p v : ℕ) → rowLine g l ≡ Row p v → ofKind (g .kind) (onRow (g .m) l) (termRow (g .n) (g .m) l) ≡ Row p v
 unfolding rowLine
@@ -63,6 +54,45 @@ row-line g l p v = go (same l (bytes "end")) where
       → ofKind (g .kind) (onRow (g .m) l) (termRow (g .n) (g .m) l) ≡ Row p v
   go true e = absurd (end-row e)
   go false e = e
+
+-- ---- the fields of a row
+
+-- what the fields of a row at t with the value v say
+record RowFields (headed : Bool) (x : Cube) (y : Number) (t v : ℕ) : Type 0 where
+  word : headed ≡ true
+  complemented : ℕ
+  outputs : ℕ
+  place-field : x ≡ cubes.Is t complemented
+  outputs-field : y ≡ numbers.Is outputs
+  value : complemented * 256 + outputs ≡ v
+
+row-fields : (h : Bool) (x : Cube) (y : Number) (t v : ℕ) → rowSaid h x y ≡ Row t v → RowFields h x y t v
+row-fields true (cubes.Is a c) (numbers.Is o) t v e =
+    let place : a ≡ t = cc in
+    record { word = refl; complemented = c; outputs = o; place-field = ap (λ (a : ℕ). cubes.Is a c) place; outputs-field = refl; value = cc }
+row-fields true (cubes.Is a c) numbers.Wrong t v e = absurd (wrong-row e)
+row-fields true cubes.Wrong y t v e = absurd (wrong-row e)
+row-fields false x y t v e = absurd (wrong-row e)
+
+row-never-end : (h : Bool) (x : Cube) (y : Number) → rowSaid h x y ≡ End → ⊥
+row-never-end true (cubes.Is a c) (numbers.Is o) e = end-row (sym e)
+row-never-end true (cubes.Is a c) numbers.Wrong e = wrong-end e
+row-never-end true cubes.Wrong y e = wrong-end e
+row-never-end false x y e = wrong-end e
+
+-- a point that is read is a number of at most three digits, with no input complemented
+point-said : (f : List ℕ) (t c : ℕ) → pointSaid f ≡ cubes.Is t c → (number 3 f ≡ numbers.Is t) × (c ≡ 0)
+point-said f t c = go (number 3 f) where
+  go : (x : Number) → andThen x cubes.Wrong (λ p. cubes.Is p 0) ≡ cubes.Is t c → (x ≡ numbers.Is t) × (c ≡ 0)
+  go (numbers.Is p) e = (cc, cc)
+  go numbers.Wrong e = let z : _≡_ {A = ℕ} 0 1 = cc in absurd (omega arith)
+
+-- a value is one of 16 bits
+pub on-small : (m : ℕ) (f g : List ℕ) → m ≤ 8 → SmallRow (pointSaid f) (outputs m g)
+on-small m f g hm t c o e d = omega (arith, points-le m hm, outputs-lt m g o d, point-said f t c e .1)
+
+pub term-small : (n m : ℕ) (f g : List ℕ) → n ≤ 8 → m ≤ 8 → SmallRow (cubeSaid n f) (outputs m g)
+term-small n m f g hn hm t c o e d = omega (arith, points-le n hn, points-le m hm, outputs-lt m g o d, cube-said n f t c e .complemented)
 
 -- ---- a row of a table text
 
@@ -78,26 +108,19 @@ on-said n m p o few small some =
       number-decimal 3 p (lit≤ tt) (lit≤ tt) few,
       outputs-written m o small some,
     )
-
-on-fields : (x y : Number) (p o : ℕ) → andThen x Wrong (λ p. andThen y Wrong (λ o. Row p o)) ≡ Row p o → (x ≡ numbers.Is p) × (y ≡ numbers.Is o)
-on-fields (numbers.Is a) (numbers.Is b) p o e = (cc, cc)
-on-fields (numbers.Is a) numbers.Wrong p o e = absurd (wrong-row e)
-on-fields numbers.Wrong y p o e = absurd (wrong-row e)
-
-on-never-end : (x y : Number) → andThen x Wrong (λ p. andThen y Wrong (λ o. Row p o)) ≡ End → ⊥
-on-never-end (numbers.Is a) (numbers.Is b) e = end-row (sym e)
-on-never-end (numbers.Is a) numbers.Wrong e = wrong-end e
-on-never-end numbers.Wrong y e = wrong-end e
+    (ap (Row p) (omega arith))
 
 on-read : (m : ℕ) (l : List ℕ) (p o : ℕ) → onRow m l ≡ Row p o → (l ≡ bytes "on" ++ tabbed (decimal p ∷ outputBytes m o ∷ [])) × OnLine m p o
 unfolding onRow
 on-read m l p o e =
-    let passes = under-test (headed 3 (bytes "on") l) _ p o e in
-    let said = on-fields (number 3 (field 1 l)) (outputs m (field 2 l)) p o (passes .1) in
-    let point = number-read 3 (field 1 l) p (lit≤ tt) (said .0) in
-    let found = outputs-read m (field 2 l) o (said .1) in (
-      two-fields (bytes "on") l (decimal p) (outputBytes m o) (passes .0) (point .0) (found .0),
-      record { digits = point .1; below = outputs-lt m (field 2 l) o (said .1); some = found .1 },
+    let row = row-fields (headed 3 (bytes "on") l) (pointSaid (field 1 l)) (outputs m (field 2 l)) p o e in
+    let place = point-said (field 1 l) p (row .complemented) (row .place-field) in
+    let value : row .outputs ≡ o = omega (arith, place .1, row .value) in
+    let said : outputs m (field 2 l) ≡ numbers.Is o = row .outputs-field ∙ ap numbers.Is value in
+    let point = number-read 3 (field 1 l) p (lit≤ tt) (place .0) in
+    let found = outputs-read m (field 2 l) o said in (
+      two-fields (bytes "on") l (decimal p) (outputBytes m o) (row .word) (point .0) (found .0),
+      record { digits = point .1; below = outputs-lt m (field 2 l) o said; some = found .1 },
     )
 
 -- ---- a row of a listing
@@ -123,38 +146,18 @@ term-said n m t v g =
       value,
     )
 
--- what the two fields of a row say
-record TermFields (x : Cube) (y : Number) (t v : ℕ) : Type 0 where
-  complemented : ℕ
-  outputs : ℕ
-  cube-field : x ≡ cubes.Is t complemented
-  outputs-field : y ≡ numbers.Is outputs
-  value : complemented * 256 + outputs ≡ v
-
-term-fields : (x : Cube) (y : Number) (t v : ℕ) → cubeThen x Wrong (λ t c. andThen y Wrong (λ o. Row t (c * 256 + o))) ≡ Row t v → TermFields x y t v
-term-fields (cubes.Is a c) (numbers.Is o) t v e =
-    let term : a ≡ t = cc in
-    record { complemented = c; outputs = o; cube-field = ap (λ (a : ℕ). cubes.Is a c) term; outputs-field = refl; value = cc }
-term-fields (cubes.Is a c) numbers.Wrong t v e = absurd (wrong-row e)
-term-fields cubes.Wrong y t v e = absurd (wrong-row e)
-
-term-never-end : (x : Cube) (y : Number) → cubeThen x Wrong (λ t c. andThen y Wrong (λ o. Row t (c * 256 + o))) ≡ End → ⊥
-term-never-end (cubes.Is a c) (numbers.Is o) e = end-row (sym e)
-term-never-end (cubes.Is a c) numbers.Wrong e = wrong-end e
-term-never-end cubes.Wrong y e = wrong-end e
-
 term-read : (n m : ℕ) (l : List ℕ) (t v : ℕ) → n ≤ 8 → m ≤ 8 → termRow n m l ≡ Row t v
     → (l ≡ bytes "term" ++ tabbed (cube n t (v / 256) ∷ outputBytes m (v % 256) ∷ [])) × TermValue n m t v
 unfolding termRow
 term-read n m l t v hn hm e =
-    let passes = under-test (headed 3 (bytes "term") l) _ t v e in
-    let said = term-fields (cubeSaid n (field 1 l)) (outputs m (field 2 l)) t v (passes .1) in
-    let shown = cube-said n (field 1 l) t (said .complemented) (said .cube-field) in
+    let said = row-fields (headed 3 (bytes "term") l) (cubeSaid n (field 1 l)) (outputs m (field 2 l)) t v e in
+    let shown = cube-said n (field 1 l) t (said .complemented) (said .place-field) in
+    let small = term-small n m (field 1 l) (field 2 l) hn hm t (said .complemented) (said .outputs) (said .place-field) (said .outputs-field) in
     let found = outputs-read m (field 2 l) (said .outputs) (said .outputs-field) in
     let below : said .outputs < 2 ^ m = outputs-lt m (field 2 l) (said .outputs) (said .outputs-field) in
     let low : said .outputs ≡ v % 256 = omega (arith, points-le m hm, said .value) in
     let high : said .complemented ≡ v / 256 = omega (arith, points-le m hm, said .value) in (
-      two-fields (bytes "term") l (cube n t (v / 256)) (outputBytes m (v % 256)) (passes .0)
+      two-fields (bytes "term") l (cube n t (v / 256)) (outputBytes m (v % 256)) (said .word)
           (shown .characters ∙ ap (cube n t) high)
           (found .0 ∙ ap (outputBytes m) low),
       record {
@@ -162,7 +165,7 @@ term-read n m l t v hn hm e =
         outputs = rw (← low) below;
         some = λ z. found .1 (low ∙ z);
         within = rw (← high) (shown .within);
-        small = omega (arith, points-le n hn, points-le m hm, shown .complemented, said .value);
+        small = omega (arith, small, said .value);
       },
     )
 
@@ -177,8 +180,8 @@ unfolding rowLine onRow termRow
 end-read g l = go (same l (bytes "end")) (g .kind) refl where
   go : (t : Bool) (k : Kind) → same l (bytes "end") ≡ t → cond t End (ofKind k (onRow (g .m) l) (termRow (g .n) (g .m) l)) ≡ End → l ≡ bytes "end"
   go true k h e = same-equal l (bytes "end") h
-  go false Table h e = absurd (never-end (headed 3 (bytes "on") l) _ (on-never-end (number 3 (field 1 l)) (outputs (g .m) (field 2 l))) e)
-  go false Listing h e = absurd (never-end (headed 3 (bytes "term") l) _ (term-never-end (cubeSaid (g .n) (field 1 l)) (outputs (g .m) (field 2 l))) e)
+  go false Table h e = absurd (row-never-end (headed 3 (bytes "on") l) (pointSaid (field 1 l)) (outputs (g .m) (field 2 l)) e)
+  go false Listing h e = absurd (row-never-end (headed 3 (bytes "term") l) (cubeSaid (g .n) (field 1 l)) (outputs (g .m) (field 2 l)) e)
 
 -- "`on`, point, outputs"
 pub table-kind : (n m : ℕ) → LineKind (rowLine (tableGrammar n m)) (bytes "on") (λ p o. decimal p ∷ outputBytes m o ∷ []) (OnLine m)

@@ -1,12 +1,13 @@
 -- What the rows mean, the lines after the first of a table text and after the second of a listing: a value for each point or each term, or the refusal
 -- that they meet.
 -- Document 01, "Text in, listing out" and "Why a call declines"; document 02, W-201.
-use mathlib.Core.Bool.{cond, _&&_}
+use mathlib.Core.Bool.{Bool, cond, _&&_}
 use mathlib.Core.List.{List, [], _∷_}
 use Prim.Native.Nat.{ℕ, _+_, _*_, _^_}
 use lib.Dec.{leb, ltb}
 use lib.ListN.{set, replicate}
 use Rattle.listings.specs.Parts.{parts, bytes, same, field}
+use Rattle.fields.specs.declared.values.Number.{Number}
 use Rattle.fields.specs.declared.values.Cube.{Cube}
 use Rattle.fields.specs.declared.values.Cube.the-variants as cube
 use Rattle.lines.specs.declared.rows.Kind.{Kind}
@@ -29,22 +30,26 @@ tableGrammar n m = record { kind = Table; n = n; m = m }
 abbrev pub listingGrammar : ℕ → ℕ → Grammar
 listingGrammar n m = record { kind = Listing; n = n; m = m }
 
--- "lines `on`, point, outputs": the row of a table text
-unfoldable pub onRow : ℕ → List ℕ → RowLine
-onRow m l =
-    cond (headed 3 (bytes "on") l) (andThen (number 3 (field 1 l)) Wrong (λ p. andThen (outputs m (field 2 l)) Wrong (λ o. Row p o))) Wrong
-
--- what follows a cube that is read, and what else is said where none is
+-- what follows a place that is read, and what else is said where none is
 abbrev pub cubeThen : {A : Type 0} → Cube → A → (ℕ → ℕ → A) → A
 cubeThen (cube.Is t c) other f = f t c
 cubeThen cube.Wrong other f = other
 
--- "`term`, cube, outputs": the row of a listing, at its term; its value is 256 times the complemented inputs and the outputs
+-- a row, where its word stands and its place and its outputs are read; its value is 256 times the complemented inputs of its place and the outputs
+abbrev pub rowSaid : Bool → Cube → Number → RowLine
+rowSaid headed place said = cond headed (cubeThen place Wrong (λ t c. andThen said Wrong (λ o. Row t (c * 256 + o)))) Wrong
+
+-- the place of a table's row: "The point is one to three digits with no leading zero (but `0`)"; no input is complemented
+abbrev pub pointSaid : List ℕ → Cube
+pointSaid f = andThen (number 3 f) cube.Wrong (λ p. cube.Is p 0)
+
+-- "lines `on`, point, outputs": the row of a table text, at its point
+unfoldable pub onRow : ℕ → List ℕ → RowLine
+onRow m l = rowSaid (headed 3 (bytes "on") l) (pointSaid (field 1 l)) (outputs m (field 2 l))
+
+-- "`term`, cube, outputs": the row of a listing, at its term
 unfoldable pub termRow : ℕ → ℕ → List ℕ → RowLine
-termRow n m l =
-    cond (headed 3 (bytes "term") l)
-    (cubeThen (cubeSaid n (field 1 l)) Wrong (λ t c. andThen (outputs m (field 2 l)) Wrong (λ o. Row t (c * 256 + o))))
-    Wrong
+termRow n m l = rowSaid (headed 3 (bytes "term") l) (cubeSaid n (field 1 l)) (outputs m (field 2 l))
 
 -- the row of either kind of line
 abbrev pub ofKind : {A : Type 0} → Kind → A → A → A

@@ -10,7 +10,8 @@ use fields::words::headed;
 use fields::words::same;
 ghost use mathlib.Core.Path.{_≡_};
 ghost use Prim.Native.Nat.{_≤_};
-ghost use Rattle.lines.specs.Rows.{onRow, termRow, rowLine};
+ghost use Rattle.lines.specs.Rows.{pointSaid, rowSaid, rowLine};
+ghost use Rattle.lines.specs.inner.Steps.{SmallRow};
 
 // Which text the lines are of.
 pub enum Kind {
@@ -33,36 +34,32 @@ pub enum RowLine {
     Wrong,
 }
 
-// A table's row: `on`, point, outputs.
-fn on_row(m: usize, line: &[u8]) -> RowLine
-    requires { ⌜ m ≤ 8 ⌝ }
-    ensures { λ r. ⌜ r ≡ onRow m (now (line .entry)) ⌝ }
+// The place of a table's row: its point, with no input complemented.
+fn point_of(field: &[u8]) -> Cube
+    ensures { λ r. ⌜ r ≡ pointSaid (now (field .entry)) ⌝ }
 {
-    if !headed(3, b"on", line) {
-        return RowLine::Wrong;
+    match read_number(3, field) {
+        Number::Is(p) => Cube::Is {
+            term: p,
+            complemented: 0,
+        },
+        Number::Wrong => Cube::Wrong,
     }
-    let Number::Is(at) = read_number(3, field(line, 1)) else {
-        return RowLine::Wrong;
-    };
-    let Number::Is(value) = outputs(m, field(line, 2)) else {
-        return RowLine::Wrong; // whatever the point: refusal 1 comes before 5
-    };
-    RowLine::Row { at, value }
 }
 
-// A listing's row: `term`, cube, outputs.
-fn term_row(n: usize, m: usize, line: &[u8]) -> RowLine
-    requires { ⌜ (n ≤ 8) × (m ≤ 8) ⌝ }
-    ensures { λ r. ⌜ r ≡ termRow n m (now (line .entry)) ⌝ }
+// A row, where it is headed by its word, and its place and its outputs are read.
+fn row(headed: bool, place: Cube, outputs: Number) -> RowLine
+    requires { ⌜ SmallRow place outputs ⌝ }
+    ensures { λ r. ⌜ r ≡ rowSaid headed place outputs ⌝ }
 {
-    if !headed(3, b"term", line) {
+    if !headed {
         return RowLine::Wrong;
     }
-    let Cube::Is { term, complemented } = read_cube(n, field(line, 1)) else {
+    let Cube::Is { term, complemented } = place else {
         return RowLine::Wrong;
     };
-    let Number::Is(c) = outputs(m, field(line, 2)) else {
-        return RowLine::Wrong;
+    let Number::Is(c) = outputs else {
+        return RowLine::Wrong; // whatever the point: refusal 1 comes before 5
     };
     RowLine::Row {
         at: term,
@@ -70,7 +67,7 @@ fn term_row(n: usize, m: usize, line: &[u8]) -> RowLine
     }
 }
 
-// A row, or `end`.
+// A row, which is `on`, point, outputs in a table text and `term`, cube, outputs in a listing; or `end`.
 pub fn row_line(grammar: Grammar, line: &[u8]) -> RowLine
     requires { ⌜ (grammar .n ≤ 8) × (grammar .m ≤ 8) ⌝ }
     ensures { λ r. ⌜ r ≡ rowLine grammar (now (line .entry)) ⌝ }
@@ -78,9 +75,11 @@ pub fn row_line(grammar: Grammar, line: &[u8]) -> RowLine
     if same(line, b"end") {
         return RowLine::End;
     }
+    let place = field(line, 1);
+    let said = outputs(grammar.m, field(line, 2));
     let kind = grammar.kind;
     match kind {
-        Kind::Table => on_row(grammar.m, line),
-        Kind::Listing => term_row(grammar.n, grammar.m, line),
+        Kind::Table => row(headed(3, b"on", line), point_of(place), said),
+        Kind::Listing => row(headed(3, b"term", line), read_cube(grammar.n, place), said),
     }
 }

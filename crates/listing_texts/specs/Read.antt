@@ -1,16 +1,13 @@
 -- What a listing beside a table means: the numbers of its first line, the mask of its second and its rows, or the refusal that it meets. Document 02,
 -- W-201, W-202, W-203, W-205 and W-207.
-use mathlib.Core.Bool.{Bool, true, false, cond, _&&_}
+use mathlib.Core.Bool.{Bool, cond, _&&_}
 use mathlib.Core.List.{List, [], _∷_}
 use Prim.Native.Nat.{ℕ}
 use lib.Dec.{eqb}
 use lib.ListN.{replicate}
 use Rattle.numbers.specs.Refusals.{sizesRefusal}
-use Rattle.expansions.specs.declared.families.Family.{Family}
-use Rattle.expansions.specs.declared.families.Family.the-variants.{One, Two}
-use Rattle.expansions.specs.declared.kinds.Class.{Class}
-use Rattle.expansions.specs.declared.kinds.Class.the-variants.{Block, Free}
 use Rattle.expansions.specs.Classes.{mostMixed}
+use Rattle.expansions.specs.Numbered.{classNumber, familyNumber}
 use Rattle.expansions.specs.Costs.{products, literals}
 use Rattle.listings.specs.Parts.{parts}
 use Rattle.lines.specs.declared.rows.Grammar.{Grammar}
@@ -32,27 +29,14 @@ pub data ListingReading : Type 0 where
 
 -- ---- the judgement
 
--- the families are the same
-unfoldable pub sameFamily : Family → Family → Bool
-sameFamily One One = true
-sameFamily One Two = false
-sameFamily Two One = false
-sameFamily Two Two = true
-
--- the classes are the same
-unfoldable pub sameClass : Class → Class → Bool
-sameClass Block Block = true
-sameClass Block Free = false
-sameClass Free Block = false
-sameClass Free Free = true
-
 -- "n, m or k unlike the table's is 12 with line 1", and "a listing of the other family than its table is 12, line 1"; W-207: "the listing repeats that
 -- field", and "`f` with a digit above 2 or above n is .. in a listing 12": the sizes z are a table's, and those of the listing are the same, with the same
 -- class and the same family
 unfoldable pub alike : Sizes → Sizes → Bool
 alike z y =
     eqb (sizesRefusal (z .n) (z .m) (mostMixed (z .class)) (z .k)) 0
-    && (eqb (y .n) (z .n) && (eqb (y .m) (z .m) && (eqb (y .k) (z .k) && (sameClass (y .class) (z .class) && sameFamily (y .family) (z .family)))))
+    && (eqb (y .n) (z .n) && (eqb (y .m) (z .m) && (eqb (y .k) (z .k)
+    && (eqb (classNumber (y .class)) (classNumber (z .class)) && eqb (familyNumber (y .family)) (familyNumber (z .family))))))
 
 -- "counts unlike the lines are 12 with line 1": the products and the literals that the first line states are those of the `term` lines
 unfoldable pub countsRight : ℕ → Form → List ℕ → Bool

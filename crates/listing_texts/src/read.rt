@@ -4,9 +4,9 @@ use crate::form::FirstLine;
 use crate::form::Form;
 use crate::form::first_line;
 use crate::inv::inv_line;
-use expansions::families::Family;
-use expansions::kinds::Class;
 use expansions::kinds::most_mixed;
+use expansions::numbered::class_number;
+use expansions::numbered::family_number;
 use fields::cursor::Cursor;
 use fields::values::Number;
 use lines::judge::RowsAnswer;
@@ -26,7 +26,7 @@ ghost use lib.ListN.{replicate};
 ghost use Rattle.numbers.specs.Bytes.{at};
 ghost use Rattle.lines.specs.Rows as rowsRead;
 ghost use Rattle.lines.specs.inner.Steps.{rowsAt, Within};
-ghost use Rattle.listing_texts.specs.Read.{sameFamily, sameClass, alike, linesJudged, grammar, listingReading};
+ghost use Rattle.listing_texts.specs.Read.{alike, linesJudged, grammar, listingReading};
 ghost use Rattle.listing_texts.specs.Record.{shownRead, handedUp};
 ghost use Rattle.listing_texts.specs.ReadBack.{YieldsRecord};
 ghost use Rattle.listing_texts.specs.inner.Judging.{standsFor, secondAt};
@@ -50,38 +50,6 @@ enum Judged {
     Refused { number: usize, line: usize },
 }
 
-// Whether two families are the same.
-fn same_family(a: Family, b: Family) -> bool
-    ensures { λ r. ⌜ r ≡ sameFamily a b ⌝ }
-{
-    match a {
-        Family::One => match b {
-            Family::One => true,
-            Family::Two => false,
-        },
-        Family::Two => match b {
-            Family::One => false,
-            Family::Two => true,
-        },
-    }
-}
-
-// Whether two classes are the same.
-fn same_class(a: Class, b: Class) -> bool
-    ensures { λ r. ⌜ r ≡ sameClass a b ⌝ }
-{
-    match a {
-        Class::Block => match b {
-            Class::Block => true,
-            Class::Free => false,
-        },
-        Class::Free => match b {
-            Class::Block => false,
-            Class::Free => true,
-        },
-    }
-}
-
 // Whether the sizes of a table are none that the documents refuse, and those of the listing are the same, and so are the class and the family.
 fn alike(table: Sizes, listing: Sizes) -> bool
     ensures { λ r. ⌜ r ≡ alike table listing ⌝ }
@@ -100,12 +68,12 @@ fn alike(table: Sizes, listing: Sizes) -> bool
     if listing.k != table.k {
         return false;
     }
-    if !same_class(listing_class, table_class) {
+    if class_number(listing_class) != class_number(table_class) {
         return false; // `f1` beside `1`, though their answers cost the same
     }
     let table_family = table.family;
     let listing_family = listing.family;
-    same_family(listing_family, table_family)
+    family_number(listing_family) == family_number(table_family)
 }
 
 // Judges the counts that the first line states, once every line has passed.
@@ -169,13 +137,13 @@ fn judge_from_second(
     if to == listing.len() {
         return Judged::Refused {
             number: 11,
-            line: 2,
+            line: stop.line,
         };
     }
     let Number::Is(inverted) = inv_line(sizes.m, &listing[from..to]) else {
         return Judged::Refused {
             number: 11,
-            line: 2, // the line is there, and broken
+            line: stop.line, // the line is there, and broken
         };
     };
     judge_terms(listing, stop.next_line(), sizes, form, inverted, rows)
@@ -191,19 +159,19 @@ fn judge_listing(sizes: Sizes, listing: &[u8], rows: &mut [u16; Limits::PLACES])
     if to == listing.len() {
         return Judged::Refused {
             number: 11,
-            line: 1,
+            line: stop.line,
         };
     }
     let FirstLine::States(form) = first_line(&listing[..to]) else {
         return Judged::Refused {
             number: 11,
-            line: 1,
+            line: stop.line,
         };
     };
     if !alike(sizes, form.sizes) {
         return Judged::Refused {
             number: 12, // before any later line is read
-            line: 1,
+            line: stop.line,
         };
     }
     judge_from_second(listing, stop.next_line(), sizes, form, rows)

@@ -17,14 +17,25 @@ ghost use Prim.Native.Nat.{_+_, _^_, _≤_, _<_};
 ghost use lib.ListN.{length};
 ghost use Rattle.numbers.specs.Bytes.{at};
 ghost use Rattle.numbers.specs.Nonzero.{ifNonzero};
-ghost use Rattle.listings.specs.Listing.{invLine, termLine, productLines, listing};
+ghost use Rattle.listings.specs.Listing.{invLine, termLine, listing};
 ghost use Rattle.listings.specs.inner.Listable.{Listable};
 ghost use Rattle.writing.specs.Put.{Put};
 ghost use Rattle.listing_writing.specs.Write.{WriteListing};
+ghost use Rattle.listing_writing.specs.inner.Members.{memberLines};
 
 // The bytes of the first two lines and the last one besides the first word, the `f` of the field k, the digits and the outputs: the words `inv` and
 // `end`, eight tabs and three line ends.
 const FRAME: usize = 17;
+
+// What the lines of the products go by besides the lent bytes: a member's class, its n, m and k, its mixed set M and its fixed polarity i.
+struct Member {
+    class: Class,
+    n: usize,
+    m: usize,
+    k: usize,
+    mixed: usize,
+    fixed: usize,
+}
 
 // The second line: `inv`, and the outputs that are inverted.
 fn write_inv(start: Writer, out: &mut [u8], m: usize, inverted: u8) -> Writer
@@ -57,27 +68,24 @@ fn write_term(
 
 // The lines of the products, ascending by term.
 fn write_terms(
-    class: Class,
+    member: Member,
     start: Writer,
     out: &mut [u8],
-    n: usize,
-    m: usize,
-    k: usize,
-    mixed: usize,
-    fixed: usize,
     coefficients: &[u8; Expansion::PLACES],
     blocks: &[u8; Expansion::PLACES],
 ) -> Writer
-    requires { ⌜ (n ≤ 8) × (m ≤ 8) × (mixed < 2 ^ n) × (fixed < 2 ^ n) ⌝ }
-    requires { ⌜ start .at + length (productLines class n m k mixed fixed (at (now blocks)) (at (now coefficients))) ≤ length (now out) ⌝ }
-    ensures { λ r. ⌜ Put (now (out .entry)) (start .at) (productLines class n m k mixed fixed (at (now (blocks .entry))) (at (now (coefficients .entry)))) (now (out .exit)) (r .at) ⌝ }
+    requires { ⌜ (member .n ≤ 8) × (member .m ≤ 8) × (member .mixed < 2 ^ member .n) × (member .fixed < 2 ^ member .n) ⌝ }
+    requires { ⌜ start .at + length (memberLines member (at (now blocks)) (at (now coefficients))) ≤ length (now out) ⌝ }
+    ensures { λ r. ⌜ Put (now (out .entry)) (start .at) (memberLines member (at (now (blocks .entry))) (at (now (coefficients .entry)))) (now (out .exit)) (r .at) ⌝ }
 {
+    let class = member.class;
+    let n = member.n;
     let size: usize = 1 << n;
     let mut place = start;
     let mut t: usize = 0;
     while t < size {
-        let w = term_polarity(class, n, k, mixed, fixed, blocks, t);
-        place = write_term(place, out, n, m, t, w, coefficients[t]);
+        let w = term_polarity(class, n, member.k, member.mixed, member.fixed, blocks, t);
+        place = write_term(place, out, n, member.m, t, w, coefficients[t]);
         t += 1;
     }
     place
@@ -110,18 +118,15 @@ pub fn write_listing(
     let start = Writer { at: 0 };
     let second = write_form(class, family, start, out, &[n, m], k, &counts);
     let terms = write_inv(second, out, m, e.inverted);
-    let end = write_terms(
+    let member = Member {
         class,
-        terms,
-        out,
         n,
         m,
         k,
-        e.mixed,
-        e.fixed,
-        &coefficients,
-        &blocks,
-    );
+        mixed: e.mixed,
+        fixed: e.fixed,
+    };
+    let end = write_terms(member, terms, out, &coefficients, &blocks);
     let stop = write_end(end, out);
     Listed::Length(stop.at)
 }

@@ -26,16 +26,18 @@ pub enum ReadAnswer {
     Refused { number: usize, line: usize },
 }
 
-// Judges the first line: the order is 1, 2, 3, 4.
-fn judge_first(line: &[u8]) -> ReadAnswer
-    ensures { λ r. ⌜ r ≡ judgedFirst (firstLine (now (line .entry))) ⌝ }
+// Judges the first line, at whose end the cursor is: the order is 1, 2, 3, 4.
+fn judge_first(stop: Cursor, bytes: &[u8]) -> ReadAnswer
+    requires { ⌜ stop .line ≡ 1 ⌝ }
+    ensures { λ r. ⌜ r ≡ judgedFirst (firstLine (now (bytes .entry))) ⌝ }
 {
-    let FirstLine::Table(design) = first_line(line) else {
-        return ReadAnswer::Refused { number: 1, line: 1 };
+    let line = stop.line;
+    let FirstLine::Table(design) = first_line(bytes) else {
+        return ReadAnswer::Refused { number: 1, line };
     };
     let number = judge_design(design);
     if number != 0 {
-        return ReadAnswer::Refused { number, line: 1 };
+        return ReadAnswer::Refused { number, line };
     }
     ReadAnswer::Given(design)
 }
@@ -71,10 +73,10 @@ fn judge_text(text: &[u8], rows: &mut [u16; Limits::PLACES]) -> ReadAnswer
     if to == text.len() {
         return ReadAnswer::Refused {
             number: unfinished(&text[..to]),
-            line: 1,
+            line: stop.line,
         };
     }
-    match judge_first(&text[..to]) {
+    match judge_first(stop, &text[..to]) {
         ReadAnswer::Given(design) => judge_points(text, stop.next_line(), design, rows),
         ReadAnswer::Refused { number, line } => ReadAnswer::Refused { number, line },
     }

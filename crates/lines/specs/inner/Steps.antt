@@ -2,10 +2,14 @@
 -- meaning of the text as it is.
 use mathlib.Core.List.{List}
 use mathlib.Core.Path.{_≡_}
-use Prim.Native.Nat.{ℕ, _+_, _≤_, _<_}
+use Prim.Native.Nat.{ℕ, _+_, _*_, _≤_, _<_}
 use lib.ListN.{length, drop}
 use Rattle.listings.specs.Parts.{parts}
 use Rattle.fields.specs.declared.cursor.Cursor.{Cursor}
+use Rattle.fields.specs.declared.values.Number.{Number}
+use Rattle.fields.specs.declared.values.Number.the-variants as number
+use Rattle.fields.specs.declared.values.Cube.{Cube}
+use Rattle.fields.specs.declared.values.Cube.the-variants as cube
 use Rattle.lines.specs.declared.rows.Grammar.{Grammar}
 use Rattle.lines.specs.declared.judge.Step.{Step}
 use Rattle.lines.specs.declared.judge.Step.the-variants as step
@@ -37,3 +41,7 @@ Advances s at (step.Refused number line) = Unit
 pub record Stepped (s : List ℕ) (c : Cursor) (g : Grammar) (least : ℕ) (values : List ℕ) (r : Step) (after : List ℕ) : Type 0 where
   pub meaning : continued s g r after ≡ rowsAt s g c least values
   pub forward : Advances s (c .at) r
+
+-- the value of a row with this place and these outputs is one of 16 bits
+abbrev pub SmallRow : Cube → Number → Type 0
+SmallRow place said = (t c o : ℕ) → place ≡ cube.Is t c → said ≡ number.Is o → c * 256 + o < 65536

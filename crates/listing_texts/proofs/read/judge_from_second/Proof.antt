@@ -1,14 +1,19 @@
 -- `judge_from_second` meets its contract: the second line's mask, or what the lines after it mean.
-use mathlib.Core.Path.{_≡_, sym, _∙_}
+use mathlib.Core.Path.{_≡_, ap, sym, _∙_}
 use Prim.Native.Nat.{_<_}
 use native.Mathlib.Omega.{arith}
 use borrow.Author.Needs.{needs}
 use lib.ListN.{length}
 use Rattle.listings.proofs.Parts.{stop-le}
+use Rattle.listing_texts.specs.Read.{refused}
 use Rattle.listing_texts.specs.inner.Judging.{standsFor}
 use Rattle.listing_texts.proofs.read.Steps.{second-line-unfinished, second-line-judged}
 use Rattle.listing_texts.proofs.read.judge_from_second.Statement.{statement}
 use Rattle.listing_texts.proofs.read.judge_from_second.Tie as tie
+
+-- the cursor at its end is on line 2
+second-line : (c : tie.After-seek) → c .seek .result .line ≡ 2
+second-line c = c .seek .ensures .1 ∙ c .before .before .pre .1
 
 -- the second line ends before the listing does
 before-end : (c : tie.Else1) → c .before .seek .result .at < length (c .before .before .before .args .listing .now)
@@ -20,14 +25,14 @@ before-end c =
 third-line : (c : tie.After-next-line) → c .next-line .result .line ≡ 3
 third-line c =
     let seek = c .before .before .before .before .before .before .before in
-    omega (arith, seek .before .before .pre .1, seek .seek .ensures .1, c .next-line .ensures .1)
+    omega (arith, second-line seek, c .next-line .ensures .1)
 
 seek-requires : tie.Need-seek-requires
 seek-requires c κs = search needs
 
 returns : tie.Need-returns
 unfolding standsFor
-returns c = sym (second-line-unfinished _ _ _ _ _ (c .before .seek .ensures .0) (omega (arith, c .if1 .taken)))
+returns c = ap (refused 11) (second-line (c .before)) ∙ sym (second-line-unfinished _ _ _ _ _ (c .before .seek .ensures .0) (omega (arith, c .if1 .taken)))
 
 sub-inv-line : tie.Need-sub-inv-line
 sub-inv-line c = search needs
@@ -52,12 +57,12 @@ unfolding standsFor
 returns-2 c =
     let test = c .before .before .before .before in
     let says = sym (c .before .before .inv-line .ensures) ∙ c .enum-told .given .1 in
-    sym (second-line-judged _ _ _ _ _ (test .before .seek .ensures .0) (before-end test) ∙ rw says)
+    ap (refused 11) (second-line (test .before)) ∙ sym (second-line-judged _ _ _ _ _ (test .before .seek .ensures .0) (before-end test) ∙ rw says)
 
 next-line-requires : tie.Need-next-line-requires
 next-line-requires c κs =
     let test = c .before .before .before .before .before in
-    omega (arith, before-end test, test .before .before .before .pre .1, test .before .seek .ensures .1)
+    omega (arith, before-end test, second-line (test .before))
 
 judge-terms-requires : tie.Need-judge-terms-requires
 judge-terms-requires c κs =

@@ -8,6 +8,7 @@ use lib.ListN.{length}
 use lib.Seq.{length-take-le}
 use Rattle.listings.specs.inner.Stops.{stop}
 use Rattle.listings.proofs.Parts.{stop-le}
+use Rattle.listing_texts.specs.Read.{refused}
 use Rattle.listing_texts.specs.inner.Judging.{standsFor}
 use Rattle.listing_texts.proofs.Compared.{alike-sizes}
 use Rattle.listing_texts.proofs.read.Steps.{listing-unfinished, listing-judged}
@@ -18,6 +19,10 @@ use Rattle.listing_texts.proofs.read.judge_listing.Tie as tie
 first-stop : (c : tie.After-seek) → c .seek .result .at ≡ stop 10 (c .before .before .before .args .listing .now) 0
 first-stop c = c .seek .ensures .0 ∙ ap (λ (i : ℕ). stop 10 (c .before .before .before .args .listing .now) i) (c .before .new .ensures .0)
 
+-- the cursor there is on line 1
+first-line : (c : tie.After-seek) → c .seek .result .line ≡ 1
+first-line c = c .seek .ensures .1 ∙ c .before .new .ensures .1
+
 -- the first line ends before the listing does
 before-end : (c : tie.Else1) → c .before .seek .result .at < length (c .before .before .before .before .args .listing .now)
 before-end c = omega (arith, first-stop (c .before), stop-le 10 (c .before .before .before .before .args .listing .now) 0 (omega arith))
@@ -26,7 +31,7 @@ before-end c = omega (arith, first-stop (c .before), stop-le 10 (c .before .befo
 second-line : (c : tie.After-next-line) → c .next-line .result .line ≡ 2
 second-line c =
     let seek = c .before .before .before .before .before .before .before .before .before in
-    omega (arith, seek .before .new .ensures .1, seek .seek .ensures .1, c .next-line .ensures .1)
+    omega (arith, first-line seek, c .next-line .ensures .1)
 
 new-requires : tie.Need-new-requires
 new-requires c κs = search needs
@@ -36,7 +41,7 @@ seek-requires c κs = search needs
 
 returns : tie.Need-returns
 unfolding standsFor
-returns c = sym (listing-unfinished _ _ (first-stop (c .before)) _ (omega (arith, c .if1 .taken)))
+returns c = ap (refused 11) (first-line (c .before)) ∙ sym (listing-unfinished _ _ (first-stop (c .before)) _ (omega (arith, c .if1 .taken)))
 
 slice-aggregate-first-line : tie.Need-slice-aggregate-first-line
 slice-aggregate-first-line c = sym (length-take-le _ _ (omega (arith, before-end (c .before))))
@@ -55,7 +60,7 @@ unfolding standsFor
 returns-2 c =
     let test = c .before .before .before .before in
     let says = sym (c .before .before .first-line .ensures) ∙ c .enum-told .given .1 in
-    sym (listing-judged _ _ (first-stop (test .before)) _ (before-end test) ∙ rw says)
+    ap (refused 11) (first-line (test .before)) ∙ sym (listing-judged _ _ (first-stop (test .before)) _ (before-end test) ∙ rw says)
 
 alike-requires : tie.Need-alike-requires
 alike-requires c κs = search needs
@@ -67,12 +72,12 @@ returns-3 c =
     let test = form .before .before .before .before in
     let says = sym (form .before .before .first-line .ensures) ∙ form .form .given .1 in
     let unlike = sym (c .before .alike .ensures) ∙ not-true _ (c .if2 .taken) in
-    sym (listing-judged _ _ (first-stop (test .before)) _ (before-end test) ∙ rw (says, unlike))
+    ap (refused 12) (first-line (test .before)) ∙ sym (listing-judged _ _ (first-stop (test .before)) _ (before-end test) ∙ rw (says, unlike))
 
 next-line-requires : tie.Need-next-line-requires
 next-line-requires c κs =
     let test = c .before .before .before .before .before .before .before in
-    omega (arith, before-end test, test .before .before .new .ensures .1, test .before .seek .ensures .1)
+    omega (arith, before-end test, first-line (test .before))
 
 judge-from-second-requires : tie.Need-judge-from-second-requires
 judge-from-second-requires c κs =

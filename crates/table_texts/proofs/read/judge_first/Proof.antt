@@ -16,7 +16,7 @@ enum-told c = search needs
 
 returns : tie.Need-returns
 unfolding judgedFirst
-returns c = rw (← c .before .before .first-line .ensures, c .enum-told .given .1)
+returns c = rw (← c .before .before .first-line .ensures, c .enum-told .given .1, c .before .before .before .before .pre)
 
 judge-design-requires : tie.Need-judge-design-requires
 judge-design-requires c κs = search needs
@@ -25,7 +25,7 @@ returns-2 : tie.Need-returns-2
 unfolding judgedFirst
 returns-2 c =
     let s = c .before .before .before in
-    rw (← s .before .before .first-line .ensures, s .design .given .1) (design-refused _ _ _ (c .before .judge-design .ensures) (c .if1 .taken))
+    rw (← s .before .before .first-line .ensures, s .design .given .1) (design-refused _ _ _ _ (c .before .judge-design .ensures) (s .before .before .before .before .pre) (c .if1 .taken))
 
 returns-3 : tie.Need-returns-3
 unfolding judgedFirst

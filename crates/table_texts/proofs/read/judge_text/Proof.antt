@@ -6,7 +6,7 @@ use borrow.Author.Needs.{needs}
 use lib.ListN.{length}
 use lib.Seq.{length-take-le}
 use Rattle.listings.specs.inner.Stops.{stop}
-use Rattle.table_texts.specs.Read.{refused, standsFor}
+use Rattle.table_texts.specs.Read.{standsFor}
 use Rattle.table_texts.proofs.read.Accepted.{first-sized}
 use Rattle.listings.proofs.Parts.{stop-le}
 use Rattle.table_texts.proofs.read.Steps.{text-unfinished, text-judged}
@@ -17,6 +17,10 @@ use Rattle.table_texts.proofs.read.judge_text.Tie as tie
 first-stop : (c : tie.After-seek) → c .seek .result .at ≡ stop 10 (c .before .before .before .args .text .now) 0
 first-stop c = c .seek .ensures .0 ∙ ap (λ (i : ℕ). stop 10 (c .before .before .before .args .text .now) i) (c .before .new .ensures .0)
 
+-- the cursor there is on line 1
+first-line : (c : tie.After-seek) → c .seek .result .line ≡ 1
+first-line c = c .seek .ensures .1 ∙ c .before .new .ensures .1
+
 -- the first line ends before the text does
 before-end : (c : tie.Else1) → c .before .seek .result .at < length (c .before .before .before .before .args .text .now)
 before-end c = omega (arith, first-stop (c .before), stop-le 10 (c .before .before .before .before .args .text .now) 0 (omega arith))
@@ -25,7 +29,7 @@ before-end c = omega (arith, first-stop (c .before), stop-le 10 (c .before .befo
 second-line : (c : tie.After-next-line) → c .next-line .result .line ≡ 2
 second-line c =
     let seek = c .before .before .before .before .before .before .before in
-    omega (arith, seek .before .new .ensures .1, seek .seek .ensures .1, c .next-line .ensures .1)
+    omega (arith, first-line seek, c .next-line .ensures .1)
 
 new-requires : tie.Need-new-requires
 new-requires c κs = search needs
@@ -41,13 +45,15 @@ unfinished-requires c κs = search needs
 
 returns : tie.Need-returns
 unfolding standsFor
-returns c = ap (λ (x : ℕ). refused x 1) (c .unfinished .ensures) ∙ sym (text-unfinished _ _ (first-stop (c .before .before .before)) (omega arith))
+returns c =
+    let seek = c .before .before .before in
+    rw (c .unfinished .ensures, first-line seek) (sym (text-unfinished _ _ (first-stop seek) (omega arith)))
 
 slice-aggregate-judge-first : tie.Need-slice-aggregate-judge-first
 slice-aggregate-judge-first c = sym (length-take-le _ _ (omega (arith, before-end (c .before))))
 
 judge-first-requires : tie.Need-judge-first-requires
-judge-first-requires c κs = search needs
+judge-first-requires c κs = first-line (c .before .before)
 
 enum-known-design : tie.Need-enum-known-design
 enum-known-design c = search needs
@@ -55,7 +61,7 @@ enum-known-design c = search needs
 next-line-requires : tie.Need-next-line-requires
 next-line-requires c κs =
     let test = c .before .before .before .before .before in
-    omega (arith, before-end test, test .before .before .new .ensures .1, test .before .seek .ensures .1)
+    omega (arith, before-end test, first-line (test .before))
 
 judge-points-requires : tie.Need-judge-points-requires
 judge-points-requires c κs =
