@@ -109,6 +109,14 @@ point-printed : (text listing : List ℕ) (p : ℕ) → checked (reading (judged
 unfolding answerLine
 point-printed text listing p e = line-says (bytes "differs") (p ∷ []) plain-differs (omega (arith, differs-small (judged text) (judged listing) p e), tt)
 
+same-printed : answerLine Same ≡ line (bytes "same") []
+unfolding answerLine
+same-printed = refl
+
+class-printed : answerLine NotOfClass ≡ line (bytes "not of the class") []
+unfolding answerLine
+class-printed = refl
+
 -- ---- what is printed
 
 -- beside a `K` table the refusal of the first 8,192 bytes is the refusal of the listing
@@ -138,6 +146,8 @@ print-holds text listing texts listings held r count et el c put =
           shown ∙ rw (accepted-text-first text (mixedDesign z) table e, passes-first z listing (accepted-sized text z table e) p);
       whole-kronecker = λ d table e k. shown ∙ ap answerLine (first-refused text listing d table e k);
       meaning = (r, shown ∙ sym line, check-words (judged text) (judged listing) r said);
+      same = λ d. shown ∙ ap answerLine (sym (d .answer)) ∙ same-printed;
+      not-of-class = λ d. shown ∙ ap answerLine (sym (d .answer)) ∙ class-printed;
       refusal = λ number l d. ap firstNumbers (shown ∙ ap answerLine (sym (d .answer))) ∙ refusal-printed text listing number l (sym (d .answer));
       point = λ p d. ap firstNumbers (shown ∙ ap answerLine (sym (d .answer))) ∙ point-printed text listing p (sym (d .answer));
     }

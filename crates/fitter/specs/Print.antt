@@ -43,6 +43,9 @@ pub record Print (text listing held : List ℕ) (count : ℕ) : Type 0 where
       → take count held ≡ answerLine (checked (reading text) listing)
   -- what is printed is the line of an answer, and this is the check's, in document 02's words
   pub meaning : (r : Checked) × (take count held ≡ answerLine r) × Check (judged text) (judged listing) r
+  -- "say: not of the class; .. or same", in these words
+  pub same : Check (judged text) (judged listing) Same → take count held ≡ line (bytes "same") []
+  pub not-of-class : Check (judged text) (judged listing) NotOfClass → take count held ≡ line (bytes "not of the class") []
   -- "the line `refused`, number, line": the numbers on the line, read in base ten
   pub refusal : (number l : ℕ) → Check (judged text) (judged listing) (Refused number l) → firstNumbers (take count held) ≡ number ∷ l ∷ []
   -- "differs, with the lowest point that differs"

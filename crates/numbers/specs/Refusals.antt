@@ -1,10 +1,10 @@
 -- Document 01, "Why a call declines": what the calls judge alike. A refusal is its number, and 0 where there is none.
 use mathlib.Core.Bool.{Bool, true, false, _&&_}
 use mathlib.Core.List.{List}
-use Prim.Native.Nat.{ℕ, zero, suc, _^_, _≤_}
+use Prim.Native.Nat.{ℕ, zero, suc, _^_, _≤_, _<_}
 use lib.Dec.{leb, eqb}
 use lib.ListN.{length}
-use Rattle.numbers.specs.Bytes.{allBelow}
+use Rattle.numbers.specs.Bytes.{at, allBelow}
 
 -- what follows where the test passes, and the refusal's number where it fails
 abbrev pub unless : Bool → ℕ → ℕ → ℕ
@@ -44,3 +44,22 @@ pub record Sized (n m most k : ℕ) : Type 0 where
   pub inputs : (1 ≤ n) × (n ≤ 8)
   pub outputs : (1 ≤ m) × (m ≤ 8)
   pub mixed : (k ≤ most) × (k ≤ n)
+
+-- ---- in words
+
+-- which refusals the sizes of a table meet: Refused x says that a call refuses them by x
+pub record TableRefusals (n m : ℕ) (Refused : ℕ → Type 0) : Type 0 where
+  -- "2. n is not 1 to 8."
+  pub inputs : ((1 ≤ n) × (n ≤ 8) → ⊥) → Refused 2
+  -- "3. m is not 1 to 8."
+  pub outputs : (1 ≤ n) × (n ≤ 8) → ((1 ≤ m) × (m ≤ 8) → ⊥) → Refused 3
+
+-- and those of a table with k mixed inputs, of which there may be `most`
+pub record SizesRefusals (n m most k : ℕ) (Refused : ℕ → Type 0) : Type 0 where
+  pub table : TableRefusals n m Refused
+  -- "4. k is above 3 or above n."
+  pub mixed : TableSized n m → ((k ≤ most) × (k ≤ n) → ⊥) → Refused 4
+
+-- no byte "of a given table or of given coefficients has a bit at m or above set"
+abbrev pub WithinOutputs : ℕ → List ℕ → Type 0
+WithinOutputs m bytes = (p : ℕ) → at bytes p < 2 ^ m

@@ -1,17 +1,14 @@
 -- The refusals of table texts in the documents' words (`text-refusals`).
-use mathlib.Core.Bool.{Bool, true, false, _&&_}
 use mathlib.Core.List.{List, [], _∷_, _++_, append-assoc}
 use mathlib.Core.Logic.{inl, inr}
 use mathlib.Core.Path.{_≡_, refl, sym, ap, _∙_}
 use Prim.Native.Nat.{ℕ, suc, _^_, _≤_, _<_}
 use native.Mathlib.Decide.{decLt}
 use native.Mathlib.Omega.{arith}
-use borrow.Author.Tests.{le-leb, leb-true}
-use lib.Dec.{leb}
 use lib.ListN.{length, drop, length-append}
 use Rattle.numbers.specs.Refusals.{tableRefusal, sizesRefusal}
 use Rattle.numbers.proofs.Shifts.{points-le}
-use Rattle.numbers.proofs.refusals.Judging.{table-accepted}
+use Rattle.numbers.proofs.refusals.Judging.{table-accepted, both-fail, table-two, table-three}
 use Rattle.expansions.specs.declared.families.Family.{Family}
 use Rattle.expansions.specs.declared.families.Family.the-variants.{One, Two}
 use Rattle.expansions.specs.declared.kinds.Kind.{Kind}
@@ -93,25 +90,10 @@ line-refused s g x e =
 
 -- ---- the order in line 1
 
-both-fail : (a b c d : ℕ) → ((a ≤ b) × (c ≤ d) → ⊥) → (leb a b && leb c d) ≡ false
-both-fail a b c d none = go (leb a b) (leb c d) refl refl where
-  go : (x y : Bool) → leb a b ≡ x → leb c d ≡ y → (x && y) ≡ false
-  go true true h k = absurd (none (leb-true a b h, leb-true c d k))
-  go true false h k = refl
-  go false y h k = refl
-
 kind-one : (family : Family) (n m : ℕ) (x : Kind) → (KindFor family x → ⊥) → kindRefusal family n m x ≡ 1
 kind-one family n m (Mixed C k) none = absurd (none tt)
 kind-one One n m Kronecker none = absurd (none tt)
 kind-one Two n m Kronecker none = refl
-
-table-two : (n m : ℕ) → ((1 ≤ n) × (n ≤ 8) → ⊥) → tableRefusal n m ≡ 2
-unfolding tableRefusal
-table-two n m none = rw (both-fail 1 n n 8 none)
-
-table-three : (n m : ℕ) → (1 ≤ n) × (n ≤ 8) → ((1 ≤ m) × (m ≤ 8) → ⊥) → tableRefusal n m ≡ 3
-unfolding tableRefusal
-table-three n m h none = rw (le-leb 1 n (h .0), le-leb n 8 (h .1), both-fail 1 m m 8 none)
 
 -- the refusal of n and m counts before that of k
 kind-table : (family : Family) (n m : ℕ) (x : Kind) (number : ℕ) → KindFor family x → tableRefusal n m ≡ suc number → kindRefusal family n m x ≡ suc number

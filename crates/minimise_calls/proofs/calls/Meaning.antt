@@ -20,6 +20,7 @@ use Rattle.minimise_calls.specs.declared.calls.Minimised.the-variants.{F
 use Rattle.expansions.proofs.Answers.{answer-minimal, answer-coefficient-lt}
 use Rattle.search.proofs.expansion.Answer.{at-coefficients, at-blocks, expansion-coefficients, expansion-blocks, expansion-inverted-lt}
 use Rattle.minimise_calls.proofs.calls.Judging.{Accepted, refusal-none}
+use Rattle.minimise_calls.proofs.calls.Words.{refusal-words, refusal-accepted}
 
 -- ---- carried out
 
@@ -60,13 +61,19 @@ pub minimise-found : (n m k : ℕ) (table c c′ b b′ : List ℕ) (e : Expansi
 unfolding minimised
 minimise-found n m k table c c′ b b′ e none is copied-c copied-b =
     record {
-      answer = rw (none, is);
+      answer = answered;
       coefficients = rw none full-c;
       blocks = rw none full-b;
+      refusals = refusal-words n m k table c b _ _ answered;
+      accepted = refusal-accepted n m k table c b _ _ answered;
       meaning = λ M i p l v r. named M i p l v r minimal;
       outputs = λ M i p l v r. (mask M i p l v r, λ t h. rw full-c (filled-outputs n m k table c b a t));
     }
   where
+    answered : Found (e .mixed) (e .fixed) (e .products) (e .literals) (e .inverted)
+        ≡ minimised (minimiseRefusal n m k table (length c) (length b)) (answerExpansion Block One n k (at table))
+    answered = rw (none, is)
+
     a : Accepted n m k table (length c) (length b)
     a = refusal-none n m k table (length c) (length b) none
 
@@ -108,10 +115,14 @@ refused-not-found x M i p l v e = let z : _≡_ {A = ℕ} 0 1 = cc in absurd (om
 pub minimise-refused : (n m k : ℕ) (table c b : List ℕ) (x : ℕ) → x ≡ minimiseRefusal n m k table (length c) (length b) → (x ≡ 0 → ⊥)
     → Minimise n m k table c c b b (Refused x 0)
 minimise-refused n m k table c b x e h =
+    let answered : Refused x 0 ≡ minimised (minimiseRefusal n m k table (length c) (length b)) (answerExpansion Block One n k (at table)) =
+    rw (← e) (sym (answered-refused x _ h)) in
     record {
-      answer = rw (← e) (sym (answered-refused x _ h));
+      answer = answered;
       coefficients = rw (← e) (kept x _ c h);
       blocks = rw (← e) (kept x _ b h);
+      refusals = refusal-words n m k table c b _ _ answered;
+      accepted = refusal-accepted n m k table c b _ _ answered;
       meaning = λ M i p l v r. refused-not-found x M i p l v r;
       outputs = λ M i p l v r. refused-not-found x M i p l v r;
     }

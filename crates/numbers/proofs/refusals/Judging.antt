@@ -1,4 +1,5 @@
--- What a refusal's number of 0 says: every test has passed, and the sizes are document 01's (`table-none`, `sizes-none`); and back.
+-- What a refusal's number of 0 says: every test has passed, and the sizes are document 01's (`table-none`, `sizes-none`); and back. What the others say, in
+-- words (`table-refusals`, `sizes-refusals`).
 use mathlib.Core.Path.{_≡_, refl}
 use mathlib.Core.Bool.{Bool, true, false, _&&_}
 use mathlib.Core.List.{List}
@@ -6,7 +7,7 @@ use Prim.Native.Nat.{ℕ, zero, suc, _≤_}
 use native.Mathlib.Omega.{arith}
 use borrow.Author.Tests.{le-leb}
 use lib.Dec.{T, leb, leb→le}
-use Rattle.numbers.specs.Refusals.{unless, orElse, unlessRefused, tableRefusal, sizesRefusal, TableSized, Sized}
+use Rattle.numbers.specs.Refusals.{unless, orElse, unlessRefused, tableRefusal, sizesRefusal, TableSized, Sized, TableRefusals, SizesRefusals}
 use Rattle.numbers.proofs.Tests.{and-left, and-right}
 
 -- ---- one refusal, and the next
@@ -63,6 +64,38 @@ unfolding sizesRefusal
 sizes-accepted n m most k s =
     let t : TableSized n m = record { inputs = s .inputs; outputs = s .outputs } in
     rw (table-accepted n m t, le-leb k most (s .mixed .0), le-leb k n (s .mixed .1))
+
+-- ---- the sizes in words
+
+pub passes : (b : Bool) → T b → b ≡ true
+passes true t = refl
+passes false t = absurd t
+
+pub fails : (b : Bool) → (T b → ⊥) → b ≡ false
+fails true none = absurd (none tt)
+fails false none = refl
+
+pub both-fail : (a b c d : ℕ) → ((a ≤ b) × (c ≤ d) → ⊥) → (leb a b && leb c d) ≡ false
+both-fail a b c d none = fails (leb a b && leb c d) (λ t. none (both-le a b c d t))
+
+pub table-two : (n m : ℕ) → ((1 ≤ n) × (n ≤ 8) → ⊥) → tableRefusal n m ≡ 2
+unfolding tableRefusal
+table-two n m none = rw (both-fail 1 n n 8 none)
+
+pub table-three : (n m : ℕ) → (1 ≤ n) × (n ≤ 8) → ((1 ≤ m) × (m ≤ 8) → ⊥) → tableRefusal n m ≡ 3
+unfolding tableRefusal
+table-three n m h none = rw (le-leb 1 n (h .0), le-leb n 8 (h .1), both-fail 1 m m 8 none)
+
+pub table-refusals : (n m : ℕ) (P : ℕ → Type 0) → ((x : ℕ) → tableRefusal n m ≡ suc x → P (suc x)) → TableRefusals n m P
+table-refusals n m P told = record { inputs = λ none. told 1 (table-two n m none); outputs = λ h none. told 2 (table-three n m h none) }
+
+pub sizes-refusals : (n m most k : ℕ) (P : ℕ → Type 0) → ((x : ℕ) → sizesRefusal n m most k ≡ suc x → P (suc x)) → SizesRefusals n m most k P
+unfolding sizesRefusal
+sizes-refusals n m most k P told =
+    record {
+      table = table-refusals n m P (λ x e. told x (rw e));
+      mixed = λ s none. told 3 (rw (table-accepted n m s, both-fail k most k n none));
+    }
 
 -- a refusal of sizes is 2, 3 or 4
 pub sizes-most : (n m most k : ℕ) → sizesRefusal n m most k ≤ 4

@@ -17,6 +17,7 @@ use Rattle.algebra.proofs.Value.{value-ext}
 use Rattle.algebra.proofs.Coefficients.{value-coefficient, coefficient-value, coefficient-ext, coefficient-lt, value-lt}
 use Rattle.algebra.proofs.Lanes.{Fitting, fits-fitting, lanes-one}
 use Rattle.transform_calls.proofs.calls.Judging.{Accepted, refusal-none}
+use Rattle.transform_calls.proofs.calls.Words.{judged-words}
 use Rattle.numbers.proofs.refusals.Outputs.{below-at}
 use Rattle.numbers.proofs.refusals.Judging.{kept}
 
@@ -44,8 +45,10 @@ pub forward-done : (n m w : ℕ) (table before after : List ℕ) → transformRe
     → Forward n m w table before after Done
 unfolding transformed
 forward-done n m w table before after e b =
+    let answered : Done ≡ transformed (transformRefusal n m w table (length before)) = rw e in
     record {
-      answer = rw e;
+      answer = answered;
+      judged = judged-words _ _ _ _ _ _ answered;
       bytes = rw e filled;
       meaning = λ r p h. value-ext n (λ t. w) (at after) (coefficient n w (at table)) p each ∙ value-coefficient n w (at table) (a .polarity) p h;
       outputs = λ r t h. rw (each t h) (coefficient-lt m n w (at table) (a .polarity) (λ p l. below-at (2 ^ m) table (pow-pos m) (a .clean) p) t);
@@ -64,8 +67,10 @@ pub backward-done : (n m w : ℕ) (coefficients before after : List ℕ) → tra
     → Backward n m w coefficients before after Done
 unfolding transformed
 backward-done n m w coefficients before after e b =
+    let answered : Done ≡ transformed (transformRefusal n m w coefficients (length before)) = rw e in
     record {
-      answer = rw e;
+      answer = answered;
+      judged = judged-words _ _ _ _ _ _ answered;
       bytes = rw e filled;
       meaning = λ r t h. coefficient-ext n w (at after) (value n (λ s. w) (at coefficients)) (a .polarity) each t ∙ coefficient-value n w (at coefficients) t h;
       outputs = λ r p h. rw (each p h) (value-lt m n w (at coefficients) (λ t l. below-at (2 ^ m) coefficients (pow-pos m) (a .clean) t) p);
@@ -92,8 +97,10 @@ refused-not-done x e = let z : _≡_ {A = ℕ} 0 1 = cc in absurd (omega arith)
 
 pub forward-refused : (n m w : ℕ) (table before : List ℕ) (x : ℕ) → x ≡ transformRefusal n m w table (length before) → (x ≡ 0 → ⊥) → Forward n m w table before before (Refused x 0)
 forward-refused n m w table before x e h =
+    let answered : Refused x 0 ≡ transformed (transformRefusal n m w table (length before)) = rw (← e) (sym (answered-refused x h)) in
     record {
-      answer = rw (← e) (sym (answered-refused x h));
+      answer = answered;
+      judged = judged-words _ _ _ _ _ _ answered;
       bytes = rw (← e) (kept x _ before h);
       meaning = λ r. refused-not-done x r;
       outputs = λ r. refused-not-done x r;
@@ -102,8 +109,10 @@ forward-refused n m w table before x e h =
 pub backward-refused : (n m w : ℕ) (coefficients before : List ℕ) (x : ℕ) → x ≡ transformRefusal n m w coefficients (length before)
     → (x ≡ 0 → ⊥) → Backward n m w coefficients before before (Refused x 0)
 backward-refused n m w coefficients before x e h =
+    let answered : Refused x 0 ≡ transformed (transformRefusal n m w coefficients (length before)) = rw (← e) (sym (answered-refused x h)) in
     record {
-      answer = rw (← e) (sym (answered-refused x h));
+      answer = answered;
+      judged = judged-words _ _ _ _ _ _ answered;
       bytes = rw (← e) (kept x _ before h);
       meaning = λ r. refused-not-done x r;
       outputs = λ r. refused-not-done x r;
