@@ -1,17 +1,22 @@
--- A member's polarities are in its class (`member-class`), and those in the class show what some member's show (`class-choices`).
+-- A member's polarities are in its class (`member-class`), and those in the class show what some member's show (`class-choices`). What an expansion gives
+-- rests on its polarities only as far as its lines show them (`gives-shown`).
 use mathlib.Core.Path.{_≡_, sym, ap, _∙_}
 use Prim.Native.Nat.{ℕ, _^_, _≤_, _<_}
-use lib.Bits.{bitAnd}
+use lib.Bits.{bitAnd, bitXor}
 use lib.Count.{onesIn}
+use Rattle.algebra.proofs.Value.{value-shown}
 use Rattle.expansions.specs.declared.kinds.Class.{Class}
 use Rattle.expansions.specs.declared.kinds.Class.the-variants.{Block, Free}
 use Rattle.expansions.specs.Split.{join}
 use Rattle.expansions.specs.Classes.{mostMixed}
-use Rattle.expansions.specs.Members.{block, place, Shared, InClass, polarity, Member, shows, shownChoice}
+use Rattle.expansions.specs.Members.{block, place, Shared, InClass, Gives, polarity, Member, shows, shownChoice}
 use Rattle.expansions.proofs.Split.{join-lt}
 use Rattle.expansions.proofs.Blocks.{block-lt, place-lt, block-join, polarity-lt, polarity-outside, polarity-inside}
 use Rattle.expansions.proofs.Polarities.{parts-equal}
 use Rattle.expansions.proofs.Shown.{free-member, free-shows}
+
+pub gives-shown : (n v : ℕ) (w w′ c f : ℕ → ℕ) → ((t : ℕ) → t < 2 ^ n → (c t ≡ 0 → ⊥) → bitAnd t (w t) ≡ bitAnd t (w′ t)) → Gives n v w′ c f → Gives n v w c f
+gives-shown n v w w′ c f e gives p h = ap (λ (y : ℕ). bitXor y v) (value-shown n w w′ c e p) ∙ gives p h
 
 member-shared : (C : Class) (n k M i : ℕ) (x : ℕ → ℕ) → Member C n k M i x → Shared C n M (polarity C n k M i x)
 member-shared Block n k M i φ member =

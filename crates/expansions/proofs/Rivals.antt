@@ -1,9 +1,7 @@
 -- What holds of every expansion of a class that gives a table holds of every rival of its kind (`mixed-rivals`, `kronecker-rivals`). A table has one
 -- least cost (`least-unique`), and that of an answer is it (`minimal-least`, `kronecker-minimal-least`).
-use mathlib.Core.Path.{_≡_, ap, _∙_}
+use mathlib.Core.Path.{_≡_}
 use Prim.Native.Nat.{ℕ, _≤_}
-use lib.Bits.{bitXor}
-use Rattle.algebra.proofs.Value.{value-shown}
 use Rattle.expansions.specs.declared.families.Family.{Family}
 use Rattle.expansions.specs.declared.families.Family.the-variants.{One}
 use Rattle.expansions.specs.declared.kinds.Kind.{Kind}
@@ -18,7 +16,7 @@ use Rattle.expansions.specs.kronecker.Letters.{IsKind, KroneckerGives}
 use Rattle.expansions.specs.kronecker.Costs.{kroneckerLiterals}
 use Rattle.expansions.specs.kronecker.Answers.{KroneckerMinimal}
 use Rattle.expansions.specs.Rivals.{Rival, mixed, kronecker, LeastCost}
-use Rattle.expansions.proofs.Members.{member-class, class-choices}
+use Rattle.expansions.proofs.Members.{gives-shown, member-class, class-choices}
 use Rattle.expansions.proofs.Rules.{no-dearer-antisym}
 
 -- ---- rivals
@@ -28,7 +26,7 @@ pub mixed-rivals : (C : Class) (n k : ℕ) (f : ℕ → ℕ) → k ≤ mostMixed
     → (p l : ℕ) → Rival n f (Mixed C k) p l → P p l
 mixed-rivals C n k f few P h p l (mixed _ _ v M i w c in-class gives) =
     let choice = class-choices C n k M i w c few in-class in
-    h v M i (choice .0) c (choice .1) (λ q below. ap (λ (y : ℕ). bitXor y v) (value-shown n _ w c (choice .2) q) ∙ gives q below)
+    h v M i (choice .0) c (choice .1) (gives-shown n v _ w c f (choice .2) gives)
 
 pub kronecker-rivals : (n : ℕ) (f : ℕ → ℕ) (P : ℕ → ℕ → Type 0)
     → ((letters c : ℕ → ℕ) → IsKind n letters → KroneckerGives n letters c f → P (products n c) (kroneckerLiterals n letters c))

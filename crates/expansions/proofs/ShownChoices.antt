@@ -6,14 +6,13 @@ use Prim.Native.Nat.{ℕ, _+_, _-_, _^_, _≤_, _<_}
 use native.Mathlib.Decide.{ℕ-discrete}
 use native.Mathlib.Nat.{le-antisymm}
 use native.Mathlib.Omega.{arith}
-use lib.Bits.{bitAnd, bitOr, bitXor, and-comm, and-le-l, and-le-r, and-zero-r}
+use lib.Bits.{bitAnd, bitOr, and-comm, and-le-l, and-le-r, and-zero-r}
 use lib.Dec.{T, eqb}
 use Rattle.numbers.specs.Bits.{inside}
 use Rattle.numbers.specs.Sums.{foldBelow}
 use Rattle.numbers.specs.Tests.{only}
 use Rattle.numbers.proofs.Ands.{and-or, and-assoc, and-again, inside-and, inside-ors}
 use Rattle.numbers.proofs.Sums.{fold-ext, fold-map}
-use Rattle.algebra.proofs.Value.{value-shown}
 use Rattle.expansions.specs.Split.{spread, join}
 use Rattle.expansions.specs.declared.kinds.Class.{Class}
 use Rattle.expansions.specs.declared.kinds.Class.the-variants.{Free}
@@ -29,7 +28,7 @@ use Rattle.expansions.proofs.Least.{then-rest}
 use Rattle.expansions.proofs.Blocks.{block-lt, place-lt, block-join, place-join, polarity-inside}
 use Rattle.expansions.proofs.Polarities.{polarity-shown}
 use Rattle.expansions.proofs.Shown.{placesChoice, shown-places, InPlace, places-lt, places-polarity, place-shows}
-use Rattle.expansions.proofs.Members.{member-class, class-choices}
+use Rattle.expansions.proofs.Members.{gives-shown, member-class, class-choices}
 
 -- ---- one block: the places r with the coefficients d r show of the choice x what is theirs
 
@@ -170,7 +169,7 @@ module _ (C : Class) (n k M i : ℕ) (w c : ℕ → ℕ) (few : k ≤ mostMixed 
       ∙ member-shows C n k M i (alike .0) c few (alike .1) t h u ∙ alike .2 t h u
 
   pub shown-gives : (v : ℕ) (f : ℕ → ℕ) → Gives n v w c f → Gives n v (polarity C n k M i (shownChoice C n k M (shows w c))) c f
-  shown-gives v f gives p h = ap (λ (y : ℕ). bitXor y v) (value-shown n (polarity C n k M i (shownChoice C n k M (shows w c))) w c class-shows p) ∙ gives p h
+  shown-gives v f = gives-shown n v (polarity C n k M i (shownChoice C n k M (shows w c))) w c f class-shows
 
 -- ---- what an answer's lines show
 

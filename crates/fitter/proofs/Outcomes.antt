@@ -6,7 +6,6 @@ use mathlib.Core.Logic.{_↔_}
 use mathlib.Core.Path.{_≡_, refl, sym, ap, _∙_}
 use Prim.Native.Nat.{ℕ}
 use native.Mathlib.Omega.{arith}
-use lib.Bits.{bitXor}
 use Rattle.numbers.specs.Bytes.{at}
 use Rattle.expansions.specs.Least.{Best, nothing, best}
 use Rattle.expansions.specs.Members.{polarity, shownChoice}
@@ -14,7 +13,7 @@ use Rattle.expansions.proofs.Members.{member-class}
 use Rattle.listings.specs.Listing.{listingWith, printedCubes}
 use Rattle.listings.specs.Meaning.{listingValue, listingCubes, statedMixed, statedFixed}
 use Rattle.membership.specs.Class.{Shown, ofClass, Printable}
-use Rattle.membership.proofs.Class.{class-exactly, class-member, class-lines, class-value}
+use Rattle.membership.proofs.Class.{class-exactly, class-member, class-lines, class-gives}
 use Rattle.table_texts.specs.declared.sizes.Sizes.{Sizes}
 use Rattle.listing_texts.specs.declared.form.Form.{Form}
 use Rattle.listing_texts.specs.Listings.{termListing}
@@ -117,7 +116,7 @@ module _ (z : Sizes) (table s : List ℕ) (f : Form) (v : ℕ) (t : List ℕ) (r
       let none = compared-same found (ends .1) in
       let x = shownChoice (z .class) (z .n) (z .k) (f .mixed) w in
       let member = class-member (z .class) (z .n) (z .k) (f .mixed) (f .fixed) w c (ends .0) (known .sized .mixed .0) cubes-shown in
-      let value-is = class-value (z .class) (z .n) (z .k) (f .mixed) (f .fixed) w c (ends .0) in (
+      let gives = class-gives (z .class) (z .n) (z .k) (f .mixed) (f .fixed) w c (ends .0) v (at table) in (
         v,
         polarity (z .class) (z .n) (z .k) (f .mixed) (f .fixed) x,
         c,
@@ -126,7 +125,7 @@ module _ (z : Sizes) (table s : List ℕ) (f : Form) (v : ℕ) (t : List ℕ) (r
           outputs = known .rows .outputs;
           mask = known .mask;
           lines = rw (mixed, fixed) (known .characters ∙ rw (class-lines (z .class) (z .n) (z .k) (f .mixed) (f .fixed) w c (ends .0) (z .m)));
-          gives = λ p h. ap (λ (x : ℕ). bitXor x v) (value-is p) ∙ difference-none given (at table) (z .n) none p h;
+          gives = gives (difference-none given (at table) (z .n) none);
         },
       )
 

@@ -1,9 +1,9 @@
 // Whether a listing is of the class: its M and i are a member's, and each of its cubes is the one that its term has under the choices of the
 // blocks that the cubes show. These were read off the cubes before, so one pass over the terms is enough. In the free class each term has its
 // own polarity in M, so that only literals outside M bind.
+use numbers::places::wide;
 use points::split::gather;
 use points::split::ones_in;
-use points::split::wide;
 use search::expansion::Expansion;
 use search::polarity::term_polarity;
 use table_texts::sizes::Sizes;

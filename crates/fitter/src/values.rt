@@ -1,5 +1,5 @@
 // What the rows of a listing give at a point, and the lowest point at which that, with the marked outputs inverted, is not the table's byte.
-use points::split::wide;
+use numbers::places::wide;
 use search::expansion::Expansion;
 ghost use mathlib.Core.Path.{_≡_};
 ghost use Prim.Native.Nat.{_^_, _≤_};

@@ -14,10 +14,10 @@ ghost use Rattle.lanes.specs.inner.Lanes.{laneByte, placesByte, lanesUnd
 ghost use Rattle.lanes.specs.inner.Sizes.{Limits, MixedSet};
 use crate::sizes::Pair;
 use crate::sizes::Sizes;
+use numbers::places::wide;
 use points::ascending::next_point;
 use points::split::gather;
 use points::split::outside;
-use points::split::wide;
 
 // Fills `points` with the numbers 0, 1, .. opened out at the inputs of the mask, stepping from each to the next.
 fn open_out(n: usize, mask: usize, points: &mut [u8])

@@ -13,12 +13,10 @@ use lib.Ieee.Bits.{is-true}
 use Rattle.numbers.specs.Tests.{every}
 use Rattle.numbers.proofs.Ands.{and-again, inside-and}
 use Rattle.numbers.proofs.Tests.{both-left, both-right, both-true, every-to, every-from}
-use Rattle.algebra.specs.Terms.{value}
-use Rattle.algebra.proofs.Value.{value-shown}
 use Rattle.expansions.specs.declared.kinds.Class.{Class}
 use Rattle.expansions.specs.Split.{spread}
 use Rattle.expansions.specs.Classes.{mostMixed, placePolarity}
-use Rattle.expansions.specs.Members.{block, place, IsPair, InClass, polarity, Member, shows, shownChoice}
+use Rattle.expansions.specs.Members.{block, place, IsPair, InClass, Gives, polarity, Member, shows, shownChoice}
 use Rattle.expansions.specs.Costs.{counted}
 use Rattle.expansions.specs.Answers.{validPair}
 use Rattle.expansions.proofs.Counted.{counted-none, counted-some}
@@ -97,8 +95,8 @@ module _ (C : Class) (n k M i : ℕ) (w c : ℕ → ℕ) (passes : ofClass C n k
   pub class-lines : (m : ℕ) → termLines n m (polarity C n k M i (shownChoice C n k M w)) c (2 ^ n) ≡ termLines n m w c (2 ^ n)
   class-lines = termLines-shown n shown w c same-shown
 
-  pub class-value : (p : ℕ) → value n (polarity C n k M i (shownChoice C n k M w)) c p ≡ value n w c p
-  class-value = value-shown n shown w c same-shown
+  pub class-gives : (v : ℕ) (f : ℕ → ℕ) → Gives n v w c f → Gives n v (polarity C n k M i (shownChoice C n k M w)) c f
+  class-gives v f = members.gives-shown n v shown w c f same-shown
 
 -- ---- the terms show what the lines of an expansion of the class show: the test passes
 

@@ -1,7 +1,15 @@
-// Bytes in as many places as a table can have.
+// Bytes as numbers, and bytes in as many places as a table can have.
 use crate::limits::Limits;
 ghost use mathlib.Core.Path.{_≡_};
+ghost use Prim.Native.Nat.{_<_};
 ghost use Rattle.numbers.specs.Bytes.{at, tabulate};
+
+// A byte, as points, offsets and polarities are stored, as a number.
+pub fn wide(x: u8) -> usize
+    ensures { λ r. ⌜ (r ≡ x) × (r < 256) ⌝ }
+{
+    x as usize
+}
 
 // The byte at place p, and 0 from the end on.
 fn byte_at(bytes: &[u8], p: usize) -> u8

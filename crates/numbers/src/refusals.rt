@@ -41,7 +41,7 @@ pub fn judge_sizes(n: usize, m: usize, most: usize, k: usize) -> usize
     0
 }
 
-// Whether no byte has a bit at m or above.
+// Whether no byte has a bit at m or above. A byte has as many bits as there can be outputs.
 pub fn within_outputs(m: usize, bytes: &[u8]) -> bool
     ensures { λ r. ⌜ r ≡ allBelow (2 ^ m) (now (bytes .entry)) ⌝ }
 {

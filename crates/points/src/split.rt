@@ -13,13 +13,6 @@ pub struct Parts {
     pub place: usize,
 }
 
-// A byte, as points, offsets and polarities are stored, as a number.
-pub fn wide(x: u8) -> usize
-    ensures { λ r. ⌜ (r ≡ x) × (r < 256) ⌝ }
-{
-    x as usize
-}
-
 // The number of inputs in the mask.
 pub fn ones_in(n: usize, mask: usize) -> usize
     requires { ⌜ n ≤ 8 ⌝ }

@@ -6,9 +6,9 @@ use crate::expansion::Expansion;
 use expansions::kinds::Class;
 use expansions::kinds::apart;
 use numbers::limits::Limits;
+use numbers::places::wide;
 use points::split::split;
 use points::split::spread;
-use points::split::wide;
 
 // The polarity of the place s of a block of two mixed inputs whose places choose apart, under the choice x.
 fn own_polarity(x: usize, s: usize) -> usize

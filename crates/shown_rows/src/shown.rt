@@ -1,10 +1,10 @@
 // The record that the rows of a listing show: its counts, its coefficients and complemented inputs, and the choices of its blocks.
 use expansions::kinds::Class;
 use expansions::kinds::apart;
+use numbers::places::wide;
 use points::split::gather;
 use points::split::ones_in;
 use points::split::split;
-use points::split::wide;
 use search::expansion::Expansion;
 ghost use mathlib.Core.Path.{_≡_};
 ghost use Prim.Native.Nat.{_/_, _%_, _^_, _≤_, _<_};
