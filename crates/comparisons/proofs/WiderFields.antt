@@ -1,5 +1,6 @@
--- W-207 of texts and their listings (`wider-fields`), with a text of the next field (`next-accepted`): the counts that two listings state are the least costs of their table, and so follow the law of
--- tables. Where fewer than two inputs are mixed the listings of both classes are the same but for the field (`alike-fields`).
+-- W-207 of texts and their listings (`wider-fields`), with a text of the next field (`next-accepted`): the counts that two listings state are the least
+-- costs of their table, and so follow the law of tables. Where fewer than two inputs are mixed the listings of both classes are the same but for the field
+-- (`alike-fields`).
 use mathlib.Core.List.{List}
 use mathlib.Core.Path.{_≡_, refl, ap, fun-ext, _∙_}
 use Prim.Native.Nat.{ℕ, suc, _≤_, _<_}

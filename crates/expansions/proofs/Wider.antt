@@ -1,5 +1,5 @@
--- W-207: one more mixed input in the free class is never dearer (`wider-no-dearer`, `wider`), and there is a least cost (`free-least`). A rival stays one when an input goes into M, every term with the
--- polarity that it had (`rival-wider`): what agrees outside M agrees outside a set with one input more (`one-more`).
+-- W-207: one more mixed input in the free class is never dearer (`wider-no-dearer`, `wider`), and there is a least cost (`free-least`). A rival stays one when
+-- an input goes into M, every term with the polarity that it had (`rival-wider`): what agrees outside M agrees outside a set with one input more (`one-more`).
 use mathlib.Core.Path.{_≡_, refl, sym, ap, _∙_}
 use Prim.Native.Nat.{ℕ, zero, suc, _+_, _-_, _*_, _/_, _%_, _^_, _≤_, _<_}
 use native.Mathlib.Omega.{arith}

@@ -139,6 +139,12 @@ module _ (z : Sizes) (e : Expansion) (sized : Sized (z .n) (z .m) (mostMixed (z 
       ∙ ap (λ (x : ℕ → ℕ). bit b (placePolarity (z .class) (z .k) (x (block (z .n) (e .mixed) t)) (place (z .n) (e .mixed) t))) at-shown
       ∙ unshown-plain (z .class) (z .n) (z .k) (e .mixed) (e .fixed) w c (sized .mixed .0) in-class t b h literal none
 
+  complements-back : (t : ℕ) → t < 2 ^ z .n → at (tabulate 256 (complementedIn rows)) t ≡ shows w c t
+  unfolding shows
+  complements-back t h =
+      at-tabulate 256 (complementedIn rows) t (omega (arith, points-le (z .n) (sized .inputs .1)))
+      ∙ row-complemented (z .n) w c (sized .inputs .1) bytes-small t h
+
   had-back : HadBack z e (record { answer = Given; expansion = asShown z e; complements = tabulate 256 (complementedIn rows) })
   unfolding asShown
   had-back =
@@ -153,6 +159,7 @@ module _ (z : Sizes) (e : Expansion) (sized : Sized (z .n) (z .m) (mostMixed (z 
         member = blocks-member;
         polarities = polarities-back;
         unshown = unshown-back;
+        complements = complements-back;
         rest = λ j h. ap (λ (x : ℕ → ℕ). x j) at-shown ∙ shown-past (z .class) (z .n) (z .k) (e .mixed) _ j (r .member .pair .size) h;
       }
 

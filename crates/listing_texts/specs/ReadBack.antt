@@ -13,7 +13,7 @@ use Rattle.expansions.specs.declared.kinds.Class.{Class}
 use Rattle.expansions.specs.declared.kinds.Class.the-variants.{Block, Free}
 use Rattle.expansions.specs.Classes.{mostMixed}
 use Rattle.expansions.specs.Costs.{products, literals}
-use Rattle.expansions.specs.Members.{block, place, Member, polarity}
+use Rattle.expansions.specs.Members.{block, place, Member, polarity, shows}
 use Rattle.search.specs.declared.expansion.Expansion.{Expansion}
 use Rattle.listings.specs.Listing.{listing}
 use Rattle.table_texts.specs.declared.sizes.Sizes.{Sizes}
@@ -63,8 +63,10 @@ pub record HadBack (z : Sizes) (e : Expansion) (r : ListingRead) : Type 0 where
   pub unshown : (t b : ℕ) → t < 2 ^ z .n → bit b (place (z .n) (e .mixed) t) ≡ 1
       → ((s : ℕ) → s < 2 ^ z .n → OnePolarity (z .class) (z .n) (e .mixed) s t → bit b (place (z .n) (e .mixed) s) ≡ 1 → at (e .coefficients) s ≡ 0)
       → bit b (place (z .n) (e .mixed) (termPolarities z (r .expansion) t)) ≡ 0
-  -- and there are 2^(n−k) blocks
+  -- there are 2^(n−k) blocks
   pub rest : (j : ℕ) → 2 ^ (z .n - z .k) ≤ j → at (r .expansion .blocks) j ≡ 0
+  -- beside the record, the inputs that the cube of each product shows complemented
+  pub complements : (t : ℕ) → t < 2 ^ z .n → at (r .complements) t ≡ shows (termPolarities z e) (at (e .coefficients)) t
 
 -- "Reading a listing that we wrote yields the record it came from, as far as its cubes show it.": r is what is handed up for the bytes s, beside a table with
 -- the sizes z
