@@ -42,24 +42,16 @@ fn write_word(family: Family, start: Writer, out: &mut [u8]) -> Writer
     }
 }
 
-// What stands before the digit in the field k.
-fn write_mark(class: Class, start: Writer, out: &mut [u8]) -> Writer
-    requires { ⌜ start .at + length (mixedMark class) ≤ length (now out) ⌝ }
-    ensures { λ r. ⌜ Put (now (out .entry)) (start .at) (mixedMark class) (now (out .exit)) (r .at) ⌝ }
-{
-    match class {
-        Class::Block => start.word(out, b""),
-        Class::Free => start.word(out, b"f"),
-    }
-}
-
 // The field k, after a tab.
 fn write_mixed(class: Class, k: usize, start: Writer, out: &mut [u8]) -> Writer
     requires { ⌜ start .at + (1 + length (mixedField class k)) ≤ length (now out) ⌝ }
     ensures { λ r. ⌜ Put (now (out .entry)) (start .at) (9 ∷ mixedField class k) (now (out .exit)) (r .at) ⌝ }
 {
-    let mark = start.byte(out, b'\t');
-    write_mark(class, mark, out).number(out, k)
+    let field = start.byte(out, b'\t');
+    match class {
+        Class::Block => field.number(out, k),
+        Class::Free => field.byte(out, b'f').number(out, k),
+    }
 }
 
 // The first line: `sizes` are the numbers before the field k, and `counts` those after it.
