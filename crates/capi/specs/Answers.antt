@@ -12,7 +12,7 @@ use Rattle.expansions.specs.declared.kinds.Kind.{Kind}
 use Rattle.expansions.specs.declared.kinds.Kind.the-variants.{Mixed, Kronecker}
 use Rattle.expansions.specs.Numbered.{classNumber, familyNumber}
 use Rattle.minimise_calls.specs.Calls as minimising
-use Rattle.search.specs.Expansion.{answerExpansion}
+use Rattle.search.specs.inner.Answer.{answerExpansion}
 use Rattle.minimise_calls.specs.declared.calls.Minimised.{Minimised}
 use Rattle.minimise_calls.specs.declared.calls.Minimised.the-variants as minimised
 use Rattle.table_texts.specs.declared.sizes.Design.{Design}

@@ -13,7 +13,8 @@ ghost use lib.ListN.{length};
 ghost use Rattle.table_texts.specs.declared.read.ReadAnswer.{ReadAnswer};
 ghost use Rattle.table_texts.specs.Read.{reading, lent, standsFor, tableAfter, ReadTable};
 ghost use Rattle.text.specs.declared.compile.Compiled.{Compiled};
-ghost use Rattle.text.specs.Compile.{compiled, Compile};
+ghost use Rattle.text.specs.Compile.{Compile};
+ghost use Rattle.text.specs.inner.Compiled.{compiled};
 ghost use Rattle.capi.specs.Answers.{designNumbers, readNumbers, listingNumbers};
 
 // The numbers that stand for a design that was read. The kind is that of the class where k is a number, and 2 with k = 0 for `K`.

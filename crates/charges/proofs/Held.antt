@@ -8,7 +8,7 @@ use lib.Count.{ones}
 use lib.Pow.{pow-pos}
 use Rattle.numbers.specs.Bytes.{at}
 use Rattle.numbers.proofs.Sums.{fold-ext}
-use Rattle.expansions.specs.Answers.{blockFunction, blockCharge, leastChoice, pairCharge}
+use Rattle.expansions.specs.inner.Answer.{blockFunction, blockCharge, leastChoice, pairCharge}
 use Rattle.expansions.specs.Classes.{choices}
 use Rattle.expansions.specs.BlockTable.{choiceEntry}
 use Rattle.expansions.specs.Rules.{ruleOf}

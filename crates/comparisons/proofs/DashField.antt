@@ -27,7 +27,8 @@ use Rattle.table_texts.proofs.Acceptance.{dashDesign, dash-written-out}
 use Rattle.table_texts.proofs.DesignLine.{kind-dash, dash-characters}
 use Rattle.table_texts.proofs.Exactness.{first-given}
 use Rattle.text.specs.declared.compile.Compiled.the-variants.{Written}
-use Rattle.text.specs.Compile.{answerListing, compiled, bufferAfter, Compile}
+use Rattle.text.specs.Compile.{Compile}
+use Rattle.text.specs.inner.Compiled.{answerListing, compiled, bufferAfter}
 use Rattle.text.proofs.compile.Listings.{written-listing}
 use Rattle.text.proofs.print.Shown.{print-whole}
 use Rattle.comparisons.specs.DashField.{dashed, DashField}

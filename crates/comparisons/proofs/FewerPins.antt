@@ -13,7 +13,7 @@ use Rattle.table_texts.specs.declared.sizes.Design.{Design}
 use Rattle.table_texts.specs.Accepted.{Accepted}
 use Rattle.table_texts.specs.Read.{given, reading}
 use Rattle.table_texts.proofs.read.Accepted.{reading-accepted}
-use Rattle.text.specs.Compile.{answerListing}
+use Rattle.text.specs.inner.Compiled.{answerListing}
 use Rattle.text.specs.Print.{Print}
 use Rattle.text.proofs.compile.Listings.{answer-listing, compile-listed}
 use Rattle.text.proofs.print.Shown.{print-whole}

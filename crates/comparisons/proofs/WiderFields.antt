@@ -11,14 +11,14 @@ use Rattle.expansions.specs.declared.kinds.Kind.the-variants.{Mixed}
 use Rattle.expansions.proofs.Alike.{polarity-alike, answer-alike}
 use Rattle.expansions.proofs.Wider.{wider-no-dearer}
 use Rattle.search.specs.declared.expansion.Expansion.{Expansion}
-use Rattle.search.specs.Expansion.{answerExpansion}
+use Rattle.search.specs.inner.Answer.{answerExpansion}
 use Rattle.listings.specs.Listing.{fieldsOf, listingWith, listing}
 use Rattle.listings.specs.Meaning.{IsListing}
 use Rattle.table_texts.specs.Accepted.{Accepted}
 use Rattle.table_texts.specs.Read.{given, reading}
 use Rattle.table_texts.proofs.Acceptance.{table-text-accepted}
 use Rattle.table_texts.proofs.read.Accepted.{reading-accepted}
-use Rattle.text.specs.Compile.{answerListing}
+use Rattle.text.specs.inner.Compiled.{answerListing}
 use Rattle.text.proofs.compile.Listings.{compile-listed}
 use Rattle.comparisons.specs.FewerPins.{ListedNoDearer}
 use Rattle.comparisons.specs.WiderFields.{freeDesign, WiderFields, AlikeFields}

@@ -10,13 +10,14 @@ use Rattle.expansions.specs.declared.kinds.Class.the-variants.{Block, Free}
 use Rattle.expansions.specs.declared.kinds.Kind.the-variants.{Mixed}
 use Rattle.expansions.specs.Members.{polarity}
 use Rattle.search.specs.declared.expansion.Expansion.{Expansion}
-use Rattle.search.specs.Expansion.{answerExpansion}
+use Rattle.search.specs.inner.Answer.{answerExpansion}
 use Rattle.listings.specs.Listing.{fieldsOf, listingWith}
 use Rattle.table_texts.specs.declared.sizes.Design.{Design}
 use Rattle.table_texts.specs.Read.{given, reading}
 use Rattle.table_texts.specs.TableTexts.{tableText}
 use Rattle.text.specs.declared.compile.Compiled.the-variants.{Written}
-use Rattle.text.specs.Compile.{answerListing, Compile}
+use Rattle.text.specs.Compile.{Compile}
+use Rattle.text.specs.inner.Compiled.{answerListing}
 use Rattle.text.specs.Print.{Print}
 use Rattle.comparisons.specs.FewerPins.{ListedNoDearer, HasLeastCost}
 

@@ -26,16 +26,16 @@ use Rattle.expansions.specs.Costs.{counted, products, literals}
 use Rattle.expansions.specs.Rules.{weight, price}
 use Rattle.expansions.specs.Least.{better, firstLeast, chosen}
 use Rattle.expansions.specs.BlockTable.{entry}
-use Rattle.expansions.specs.Answers.{blockFunction, memberCoefficient, blockCharge, leastChoice, pairCharge, validPair, leastPair}
-use Rattle.expansions.specs.Answers.{answerPair, answerMixed, answerFixed, answerChoice, expandedCoefficient, answerInverted, withoutConstant, answerCoefficient}
+use Rattle.expansions.specs.inner.Answer.{blockFunction, memberCoefficient, blockCharge, leastChoice, pairCharge, validPair, leastPair}
+use Rattle.expansions.specs.inner.Answer.{answerPair, answerMixed, answerFixed, answerChoice, expandedCoefficient, answerInverted, withoutConstant, answerCoefficient}
 use Rattle.expansions.specs.Outputs.{chosenTable}
 use Rattle.expansions.specs.kronecker.Letters.{literalOf, literalTrue, literalCount, lettersOf}
 use Rattle.expansions.specs.kronecker.Steps.{stepValue, without, kroneckerStep, kroneckerCoefficient}
 use Rattle.expansions.specs.kronecker.Costs.{termLiterals, kroneckerLiterals, kroneckerCharge}
-use Rattle.expansions.specs.kronecker.Answers.{kindCharge, answerKind}
-use Rattle.expansions.specs.kronecker.Answers as kronecker
-use Rattle.search.specs.Expansion.{answerExpansion}
-use Rattle.kronecker.specs.Expansion.{answerKronecker}
+use Rattle.expansions.specs.inner.KroneckerAnswer.{kindCharge, answerKind}
+use Rattle.expansions.specs.inner.KroneckerAnswer as kronecker
+use Rattle.search.specs.inner.Answer.{answerExpansion}
+use Rattle.kronecker.specs.inner.Answer.{answerKronecker}
 use Rattle.listings.specs.Parts.{parts, fields, bytes, same}
 use Rattle.numbers.specs.Nonzero.{ifNonzero, overNonzero}
 use Rattle.listings.specs.Listing.{tabbed, line, descending, digitCount, decimal, cubeByte, cube, outputBytes, mixedMark, mixedField, formWord, formLine, invLine, cubeLine, listingWith, listing}
@@ -48,8 +48,9 @@ use Rattle.listings.specs.Kronecker.{letterByte, letterBytes, literalByte, kron
 use Rattle.table_texts.specs.Design.{designRefusal}
 use Rattle.table_texts.specs.First.{dashKind, kindOf, tableWord, firstLine}
 use Rattle.table_texts.specs.Read.{withDesign, judgedFirst, allLines, reading}
-use Rattle.text.specs.Compile.{answerListing}
-use Rattle.text.specs.Print.{refusedLine, printedFor, printed}
+use Rattle.text.specs.inner.Compiled.{answerListing}
+use Rattle.text.specs.Print.{refusedLine}
+use Rattle.text.specs.inner.Printed.{printedFor, printed}
 use Rattle.designs.specs.Designs.{costOf, termsBelow, computed, Design, states, Holds, baseDesigns, freeDesigns, markedDesigns}
 use Rattle.designs.specs.Designs.{orTable, zeroTable, oneTable, pointTable, withoutTable, dearerTable, neitherTable, oppositeTable, printedTable}
 use Rattle.designs.specs.Designs.{splitTable, plainTable, endsTable, oneOfThreeTable, noneOrTwoTable, twoOfThreeTable, familiesTable, sharedTable, tieTable}

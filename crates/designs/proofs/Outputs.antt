@@ -15,7 +15,7 @@ use Rattle.expansions.specs.declared.kinds.Kind.{Kind}
 use Rattle.expansions.specs.declared.kinds.Kind.the-variants.{Mixed}
 use Rattle.expansions.specs.Rules.{NoDearer}
 use Rattle.expansions.specs.Costs.{products, literals}
-use Rattle.expansions.specs.Answers.{answerCoefficient}
+use Rattle.expansions.specs.inner.Answer.{answerCoefficient}
 use Rattle.expansions.specs.Rivals.{LeastCost}
 use Rattle.expansions.specs.Outputs.{IsChoice, chosenOutputs}
 use Rattle.expansions.proofs.Answers.{answer-minimal}

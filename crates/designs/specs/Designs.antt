@@ -11,7 +11,7 @@ use Rattle.numbers.specs.Bytes.{at, tabulate}
 use Rattle.algebra.specs.Coefficients.{coefficient}
 use Rattle.expansions.specs.Costs.{products, literals}
 use Rattle.expansions.specs.BlockTable.{entry}
-use Rattle.expansions.specs.Answers.{answerInverted, answerMixed, answerFixed, withoutConstant, answerCoefficient}
+use Rattle.expansions.specs.inner.Answer.{answerInverted, answerMixed, answerFixed, withoutConstant, answerCoefficient}
 use Rattle.expansions.specs.declared.families.Family.{Family}
 use Rattle.expansions.specs.declared.families.Family.the-variants.{One, Two}
 use Rattle.expansions.specs.declared.kinds.Class.{Class}
@@ -20,15 +20,15 @@ use Rattle.expansions.specs.declared.kinds.Kind.{Kind}
 use Rattle.expansions.specs.declared.kinds.Kind.the-variants.{Mixed, Kronecker}
 use Rattle.expansions.specs.Outputs.{chosenTable}
 use Rattle.expansions.specs.kronecker.Costs.{kroneckerLiterals}
-use Rattle.expansions.specs.kronecker.Answers as kronecker
-use Rattle.expansions.specs.kronecker.Answers.{answerLetters}
+use Rattle.expansions.specs.inner.KroneckerAnswer as kronecker
+use Rattle.expansions.specs.inner.KroneckerAnswer.{answerLetters}
 use Rattle.search.specs.declared.expansion.Expansion.{Expansion}
 use Rattle.listings.specs.Parts.{bytes}
 use Rattle.listings.specs.Listing.{listing}
 use Rattle.listings.specs.Kronecker.{letterBytes}
 use Rattle.listings.specs.Meaning.{listingValue, listingProducts, listingLiterals, firstNumbers}
 use Rattle.table_texts.specs.Read.{Reading, given, refused, reading}
-use Rattle.text.specs.Print.{printed}
+use Rattle.text.specs.inner.Printed.{printed}
 
 -- ---- questions
 

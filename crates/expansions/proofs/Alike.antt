@@ -8,8 +8,8 @@ use Rattle.expansions.specs.declared.families.Family.{Family}
 use Rattle.expansions.specs.declared.kinds.Kind.the-variants.{Mixed}
 use Rattle.expansions.specs.declared.kinds.Class.the-variants.{Block, Free}
 use Rattle.expansions.specs.Members.{Gives, polarity, Member, shownChoice}
-use Rattle.expansions.specs.Answers.{memberCoefficient, blockCharge}
-use Rattle.expansions.specs.Answers.{answerPair, answerMixed, answerFixed, answerChoice, expandedCoefficient, answerInverted, answerCoefficient}
+use Rattle.expansions.specs.inner.Answer.{memberCoefficient, blockCharge}
+use Rattle.expansions.specs.inner.Answer.{answerPair, answerMixed, answerFixed, answerChoice, expandedCoefficient, answerInverted, answerCoefficient}
 use Rattle.expansions.specs.Rivals.{Rival, mixed, LeastCost}
 use Rattle.expansions.proofs.Members.{member-class}
 use Rattle.expansions.proofs.Rivals.{mixed-rivals}

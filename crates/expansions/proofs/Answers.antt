@@ -24,8 +24,9 @@ use Rattle.expansions.proofs.Costs.{charge, charge-ext, charge-cost, ch
 use Rattle.expansions.proofs.Inverters.{constant, constant-inverted, without-ext, gives-unique, rival-step}
 use Rattle.expansions.proofs.Rules.{base, rule-some}
 use Rattle.expansions.specs.Least.{LeastThen}
-use Rattle.expansions.specs.Answers.{NotAfter, IsAnswer, Minimal, blockFunction, memberCoefficient, blockCharge, leastChoice, pairCharge, validPair, leastPair}
-use Rattle.expansions.specs.Answers.{answerPair, answerMixed, answerFixed, answerChoice, expandedCoefficient, answerInverted, withoutConstant, answerCoefficient}
+use Rattle.expansions.specs.Answers.{NotAfter, IsAnswer, Minimal}
+use Rattle.expansions.specs.inner.Answer.{blockFunction, memberCoefficient, blockCharge, leastChoice, pairCharge, validPair, leastPair}
+use Rattle.expansions.specs.inner.Answer.{answerPair, answerMixed, answerFixed, answerChoice, expandedCoefficient, answerInverted, withoutConstant, answerCoefficient}
 use Rattle.expansions.proofs.Classes.{choices-some}
 use Rattle.expansions.proofs.Split.{join-lt}
 use Rattle.expansions.proofs.Masks.{valid-from, valid-size, valid-clear}

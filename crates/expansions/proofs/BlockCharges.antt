@@ -11,7 +11,7 @@ use Rattle.numbers.specs.Bits.{bit}
 use Rattle.numbers.proofs.Sums.{fold-ext}
 use Rattle.expansions.specs.declared.kinds.Class.{Class}
 use Rattle.expansions.specs.Classes.{mostMixed, choices, placeCoefficient}
-use Rattle.expansions.specs.Answers.{blockFunction, blockCharge, pairCharge, withoutConstant}
+use Rattle.expansions.specs.inner.Answer.{blockFunction, blockCharge, pairCharge, withoutConstant}
 use Rattle.expansions.specs.Costs.{counted}
 use Rattle.expansions.specs.declared.families.Family.{Family}
 use Rattle.expansions.specs.Rules.{Rule, weight, ruleOf, price}

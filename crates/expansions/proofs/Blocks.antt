@@ -23,7 +23,7 @@ use Rattle.expansions.specs.Split.{putDigit, gather, outside, join}
 use Rattle.expansions.specs.declared.kinds.Class.{Class}
 use Rattle.expansions.specs.Classes.{apart, placePolarity, placeCoefficient}
 use Rattle.expansions.specs.Members.{block, place, polarity, Member}
-use Rattle.expansions.specs.Answers.{blockFunction, memberCoefficient}
+use Rattle.expansions.specs.inner.Answer.{blockFunction, memberCoefficient}
 use Rattle.expansions.proofs.Classes.{place-over, place-gives, place-coefficient-lt}
 use Rattle.expansions.proofs.Split.{outside-half, outside-low, ones-others, gather-lt, spread-zero, gather-join, gather-outside-join, join-gather, join-lt, sums}
 

@@ -17,7 +17,7 @@ use Rattle.expansions.specs.Members.{block, place}
 use Rattle.expansions.specs.declared.families.Family.{Family}
 use Rattle.expansions.specs.Costs.{counted, products, literals}
 use Rattle.expansions.specs.Rules.{costOf, tieOf, Rule, weight, ruleOf, price}
-use Rattle.expansions.specs.Answers.{blockFunction, blockCharge, memberCoefficient, withoutConstant}
+use Rattle.expansions.specs.inner.Answer.{blockFunction, blockCharge, memberCoefficient, withoutConstant}
 use Rattle.expansions.proofs.Split.{ones-others, sums}
 use Rattle.expansions.proofs.Counted.{counted-le}
 use Rattle.expansions.proofs.Rules.{counted-weight, base, rule-cost, tie-lt, rule-products, rule-literals}

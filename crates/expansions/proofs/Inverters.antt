@@ -18,7 +18,7 @@ use Rattle.expansions.specs.declared.kinds.Class.{Class}
 use Rattle.expansions.specs.Members.{polarity, Member, Gives}
 use Rattle.expansions.specs.Costs.{counted}
 use Rattle.expansions.specs.Rules.{Rule, weight}
-use Rattle.expansions.specs.Answers.{memberCoefficient, withoutConstant}
+use Rattle.expansions.specs.inner.Answer.{memberCoefficient, withoutConstant}
 use Rattle.expansions.specs.Least.{LeastThen}
 use Rattle.expansions.proofs.Blocks.{member-unique}
 use Rattle.expansions.proofs.Costs.{charge, charge-ext, charge-apart}

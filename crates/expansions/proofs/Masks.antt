@@ -13,7 +13,7 @@ use Rattle.numbers.proofs.Xor.{low-lt}
 use Rattle.numbers.proofs.Bits.{bit-zero, bit-suc}
 use Rattle.numbers.proofs.Tests.{and-intro, and-left, and-right}
 use Rattle.expansions.specs.Split.{putDigit, lowDigit, dropDigit, gather, spread, outside}
-use Rattle.expansions.specs.Answers.{validPair}
+use Rattle.expansions.specs.inner.Answer.{validPair}
 
 -- ---- the inputs outside M
 

@@ -10,7 +10,7 @@ use lib.Dec.{T}
 use Rattle.numbers.specs.Sums.{sumBelow}
 use Rattle.numbers.proofs.Sums.{fold-ext}
 use Rattle.expansions.specs.Least.{LeastThen, chosen}
-use Rattle.expansions.specs.Answers.{leastChoice, pairCharge, leastPair}
+use Rattle.expansions.specs.inner.Answer.{leastChoice, pairCharge, leastPair}
 use Rattle.expansions.proofs.Least.{then-map, then-sum, then-chain, then-digits, IsFirst, first-unique, first-alike, chosen-is, firstLeast-ext}
 use Rattle.expansions.proofs.Costs.{sum-le}
 

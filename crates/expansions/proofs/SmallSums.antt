@@ -15,7 +15,7 @@ use Rattle.numbers.proofs.Sums.{fold-ext}
 use Rattle.numbers.proofs.Bits.{bit-lt}
 use Rattle.numbers.proofs.Pack.{ones-bits}
 use Rattle.expansions.specs.Rules.{Rule, weight}
-use Rattle.expansions.specs.Answers.{leastChoice}
+use Rattle.expansions.specs.inner.Answer.{leastChoice}
 use Rattle.expansions.specs.inner.Charges.{literalCounts, literalCount, byteCharge, usedCharge, sumTo, smallSum, sumCharge}
 use Rattle.expansions.proofs.Costs.{sum-mono, sum-scaled, sum-digits}
 use Rattle.expansions.proofs.Minimal.{choice-first, leastChoice-alike}

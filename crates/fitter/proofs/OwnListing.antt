@@ -11,7 +11,7 @@ use Rattle.expansions.specs.Classes.{mostMixed}
 use Rattle.expansions.specs.Members.{Gives}
 use Rattle.expansions.proofs.Members.{member-class}
 use Rattle.search.specs.declared.expansion.Expansion.{Expansion}
-use Rattle.search.specs.Expansion.{answerExpansion}
+use Rattle.search.specs.inner.Answer.{answerExpansion}
 use Rattle.search.proofs.expansion.Answer.{answerExpansion-is}
 use Rattle.listings.specs.Meaning.{statedMixed, statedFixed}
 use Rattle.table_texts.specs.declared.sizes.Sizes.{Sizes}
@@ -22,7 +22,7 @@ use Rattle.table_texts.proofs.read.Accepted.{reading-accepted}
 use Rattle.listing_texts.specs.Read.{listingReading}
 use Rattle.listing_texts.specs.ReadBack.{MemberRecord, memberListing, termPolarities}
 use Rattle.listing_texts.proofs.ReadBack.{listing-terms, answer-record}
-use Rattle.text.specs.Compile.{answerListing}
+use Rattle.text.specs.inner.Compiled.{answerListing}
 use Rattle.fitter.specs.declared.check.Checked.the-variants.{Same}
 use Rattle.fitter.specs.Check.{judged, judgedDesign, checked}
 use Rattle.fitter.proofs.Bytes.{mixed-stated, fixed-stated}

@@ -7,7 +7,8 @@ ghost use Rattle.numbers.specs.Bytes.{at, tabulate};
 ghost use Rattle.numbers.specs.Tests.{only};
 ghost use Rattle.expansions.specs.kronecker.Letters.{lettersOf};
 ghost use Rattle.expansions.specs.kronecker.Steps.{kroneckerCoefficient};
-ghost use Rattle.kronecker.specs.Expansion.{answerKronecker, searchedKronecker};
+ghost use Rattle.kronecker.specs.Found.{Found};
+ghost use Rattle.kronecker.specs.inner.Answer.{answerKronecker};
 use crate::expansion::KroneckerExpansion;
 use crate::step::step;
 use crate::walk::KIND_BITS;
@@ -87,7 +88,7 @@ fn search_kinds(n: usize, table: &[u8]) -> KroneckerExpansion
 // The record of the answer for a table of n inputs and m outputs, among the expansions of all 3^n kinds. Where these are not such numbers, or
 // the bytes not such a table, it hands up the empty record; the calls refuse before they get here.
 pub fn find_kronecker(n: usize, m: usize, table: &[u8]) -> KroneckerExpansion
-    ensures { λ e. ⌜ e ≡ searchedKronecker n m (now (table .entry)) ⌝ }
+    ensures { λ e. ⌜ Found n m (now (table .entry)) e ⌝ }
 {
     if is_table(n, m, table) {
         return search_kinds(n, table);

@@ -27,7 +27,7 @@ use Rattle.expansions.proofs.Members.{member-class}
 use Rattle.expansions.proofs.ShownChoices.{shown-ext, member-shows, shown-member, answer-shown}
 use Rattle.membership.proofs.Shown.{shown-past}
 use Rattle.search.specs.declared.expansion.Expansion.{Expansion}
-use Rattle.search.specs.Expansion.{answerExpansion}
+use Rattle.search.specs.inner.Answer.{answerExpansion}
 use Rattle.search.proofs.expansion.Answer.{answerExpansion-is, expansion-coefficients, expansion-blocks, expansion-coefficients-lt, expansion-inverted-lt}
 use Rattle.listings.specs.Listing.{listing}
 use Rattle.table_texts.specs.declared.sizes.Sizes.{Sizes}

@@ -3,7 +3,7 @@ use mathlib.Core.Path.{_≡_, sym, _∙_}
 use Prim.Native.Nat.{ℕ, _^_, _≤_, _<_}
 use native.Mathlib.Omega.{arith}
 use Rattle.numbers.specs.Bytes.{at}
-use Rattle.search.proofs.expansion.Answer.{Answered}
+use Rattle.search.specs.Expansion.{Answered}
 use Rattle.search.specs.declared.expansion.Expansion.{Expansion}
 use Rattle.expansions.specs.Members.{polarity}
 use Rattle.expansions.specs.declared.families.Family.{Family}

@@ -17,7 +17,7 @@ use Rattle.expansions.specs.declared.kinds.Class.{Class}
 use Rattle.expansions.specs.declared.families.Family.{Family}
 use Rattle.expansions.specs.Classes.{apart}
 use Rattle.expansions.specs.Costs.{products}
-use Rattle.search.proofs.expansion.Answer.{Answered}
+use Rattle.search.specs.Expansion.{Answered}
 use Rattle.search.specs.declared.expansion.Expansion.{Expansion}
 use Rattle.expansions.proofs.Costs.{products-le}
 use Rattle.search.proofs.expansion.Full.{answer-products-lt, full-least}

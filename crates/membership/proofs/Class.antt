@@ -18,7 +18,7 @@ use Rattle.expansions.specs.Split.{spread}
 use Rattle.expansions.specs.Classes.{mostMixed, placePolarity}
 use Rattle.expansions.specs.Members.{block, place, IsPair, InClass, Gives, polarity, Member, shows, shownChoice}
 use Rattle.expansions.specs.Costs.{counted}
-use Rattle.expansions.specs.Answers.{validPair}
+use Rattle.expansions.specs.inner.Answer.{validPair}
 use Rattle.expansions.proofs.Counted.{counted-none, counted-some}
 use Rattle.expansions.proofs.Masks.{valid-from, valid-size, valid-clear}
 use Rattle.expansions.proofs.Members as members

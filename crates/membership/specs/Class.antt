@@ -10,7 +10,7 @@ use Rattle.numbers.specs.Bits.{inside}
 use Rattle.numbers.specs.Tests.{every}
 use Rattle.expansions.specs.declared.kinds.Class.{Class}
 use Rattle.expansions.specs.Members.{InClass, polarity, shownChoice}
-use Rattle.expansions.specs.Answers.{validPair}
+use Rattle.expansions.specs.inner.Answer.{validPair}
 use Rattle.listings.specs.Listing.{printedCubes}
 
 -- ---- the listing

@@ -9,8 +9,9 @@ use Rattle.numbers.specs.Bytes.{at, tabulate, allBelow}
 use Rattle.numbers.specs.Refusals.{unless, orElse, unlessRefused, sizesRefusal, Sized, SizesRefusals, WithinOutputs}
 use Rattle.expansions.specs.declared.kinds.Class.the-variants.{Block}
 use Rattle.expansions.specs.declared.families.Family.the-variants.{One}
-use Rattle.expansions.specs.Answers.{Minimal, answerChoice, answerCoefficient}
-use Rattle.search.specs.Expansion.{answerExpansion}
+use Rattle.expansions.specs.Answers.{Minimal}
+use Rattle.expansions.specs.inner.Answer.{answerChoice, answerCoefficient}
+use Rattle.search.specs.inner.Answer.{answerExpansion}
 use Rattle.search.specs.declared.expansion.Expansion.{Expansion}
 use Rattle.minimise_calls.specs.declared.calls.Minimised.{Minimised}
 use Rattle.minimise_calls.specs.declared.calls.Minimised.the-variants.{Found, Refused}

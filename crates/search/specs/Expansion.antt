@@ -1,32 +1,15 @@
--- Document 01's expansion record: the answer of a class and a family as the search hands it up, and the record with no product.
-use mathlib.Core.Bool.{Bool, _&&_, cond}
+-- Document 01's expansion record: what the search hands up, the record with no product, and the polarity of a record's terms.
+use mathlib.Core.Bool.{_&&_, cond}
 use mathlib.Core.List.{List}
 use Prim.Native.Nat.{ℕ, _-_, _^_, min}
-use lib.Dec.{leb, ltb, eqb}
+use lib.Dec.{leb, ltb}
 use lib.ListN.{replicate}
-use Rattle.numbers.specs.Bytes.{at, tabulate}
-use Rattle.numbers.specs.Refusals.{sizesRefusal, isTable}
+use Rattle.numbers.specs.Bytes.{at}
 use Rattle.expansions.specs.declared.kinds.Class.{Class}
 use Rattle.expansions.specs.declared.families.Family.{Family}
-use Rattle.expansions.specs.Classes.{mostMixed}
 use Rattle.expansions.specs.Members.{polarity}
-use Rattle.expansions.specs.Costs.{products, literals}
-use Rattle.expansions.specs.Answers.{answerInverted, answerMixed, answerFixed, answerChoice, answerCoefficient}
+use Rattle.expansions.specs.Answers.{Minimal}
 use Rattle.search.specs.declared.expansion.Expansion.{Expansion}
-
--- "the search hands up an expansion record that holds the 256 coefficient places, zero from 2^n on", and as many block places, with the choice of each
--- block, which in document 01's class is its polarity. Document 02, W-205: "The expansion record gains an inversion mask (bit o for output o)"
-unfoldable pub answerExpansion : Class → Family → (n k : ℕ) → (ℕ → ℕ) → Expansion
-answerExpansion C F n k f =
-    record {
-      coefficients = tabulate 256 (answerCoefficient C F n k f);
-      blocks = tabulate 256 (answerChoice C F n k f);
-      mixed = answerMixed C F n k f;
-      fixed = answerFixed C F n k f;
-      products = products n (answerCoefficient C F n k f);
-      literals = literals n (answerCoefficient C F n k f);
-      inverted = answerInverted C F n k f;
-    }
 
 -- "All zero: M = 2^k − 1, i = 0, 0 products", with no more than the eight inputs in M, and no output inverted
 unfoldable pub emptyExpansion : ℕ → Expansion
@@ -41,15 +24,11 @@ emptyExpansion k =
       inverted = 0;
     }
 
--- the bytes are a table of n inputs and m outputs, and k is none that the documents refuse beside them
-unfoldable pub searchable : Class → (n m k : ℕ) → List ℕ → Bool
-searchable C n m k table = isTable n m table && eqb (sizesRefusal n m (mostMixed C) k) 0
-
--- what the search hands up: the answer's record, and the empty record where there is no such table
-unfoldable pub searched : Class → Family → (n m k : ℕ) → List ℕ → Expansion
-searched C F n m k table = cond (searchable C n m k table) (answerExpansion C F n k (at table)) (emptyExpansion k)
-
 -- "Its literals outside M follow i; those in M follow φj", or in the free class the term's own polarity: that of the term t, and 0 where the masks are
 -- not of n inputs
 unfoldable pub termPolarity : Class → (n k M i : ℕ) → List ℕ → ℕ → ℕ
 termPolarity C n k M i blocks t = cond (leb n 8 && (ltb M (2 ^ n) && ltb i (2 ^ n))) (polarity C n k M i (at blocks) t) 0
+
+-- the record holds the answer of the class and the family for the table f: "the member that gives the table with fewest products, .."
+abbrev pub Answered : Class → Family → ℕ → ℕ → (ℕ → ℕ) → Expansion → Type 0
+Answered C F n k f e = Minimal C F n k f (e .inverted) (e .mixed) (e .fixed) (at (e .blocks)) (at (e .coefficients)) (e .products) (e .literals)

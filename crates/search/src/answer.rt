@@ -2,7 +2,8 @@
 ghost use mathlib.Core.Path.{_≡_};
 ghost use Rattle.numbers.specs.Bytes.{at};
 ghost use Rattle.lanes.specs.inner.Sizes.{Limits};
-ghost use Rattle.search.specs.Expansion.{answerExpansion, searchable, searched};
+ghost use Rattle.search.specs.Found.{Found};
+ghost use Rattle.search.specs.inner.Answer.{answerExpansion, searchable};
 ghost use Rattle.pairs.specs.inner.Pairs.{Given};
 use crate::expansion::Expansion;
 use crate::found::expansion_of;
@@ -47,7 +48,7 @@ pub fn find_answer(
     k: usize,
     table: &[u8],
 ) -> Expansion
-    ensures { λ e. ⌜ e ≡ searched class family n m k (now (table .entry)) ⌝ }
+    ensures { λ e. ⌜ Found class family n m k (now (table .entry)) e ⌝ }
 {
     if allowed(class, n, m, k, table) {
         return search_allowed(

@@ -5,7 +5,7 @@ ghost use lib.ListN.{length};
 ghost use Rattle.numbers.specs.Bytes.{at, tabulate};
 ghost use Rattle.expansions.specs.BlockTable.{Rows};
 ghost use Rattle.lanes.specs.inner.Sizes.{Limits};
-ghost use Rattle.search.specs.Expansion.{answerExpansion};
+ghost use Rattle.search.specs.inner.Answer.{answerExpansion};
 ghost use Rattle.pairs.specs.inner.Pairs.{Given, Leads};
 ghost use Rattle.search.specs.inner.Search.{choiceAt};
 use crate::expansion::Expansion;

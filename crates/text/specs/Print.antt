@@ -9,12 +9,12 @@ use Rattle.table_texts.specs.declared.sizes.Design.{Design}
 use Rattle.listings.specs.Parts.{bytes}
 use Rattle.table_texts.specs.Accepted.{Accepted}
 use Rattle.table_texts.specs.TableTexts.{IsText}
-use Rattle.table_texts.specs.Read.{Reading, given, refused, reading}
+use Rattle.table_texts.specs.Read.{refused}
 use Rattle.table_texts.specs.Refusals.{TextRefusals}
 use Rattle.listings.specs.Listing.{line, decimal}
 use Rattle.listings.specs.Meaning.{firstNumbers, IsListing}
 use Rattle.listings.specs.AnswerListing.{IsAnswerListing}
-use Rattle.text.specs.Compile.{answerListing}
+use Rattle.text.specs.inner.Printed.{printed}
 
 -- "judges the first 8,192 bytes of standard input as the whole text"
 abbrev pub judged : List ℕ → List ℕ
@@ -23,15 +23,6 @@ judged input = take 8192 input
 -- "the line `refused`, number, line"
 unfoldable pub refusedLine : ℕ → ℕ → List ℕ
 refusedLine number l = line (bytes "refused") (decimal number ∷ decimal l ∷ [])
-
--- "the listing, or the line `refused`, number, line", by what the text means
-unfoldable pub printedFor : Reading → List ℕ
-printedFor (given z table) = answerListing z table
-printedFor (refused number l) = refusedLine number l
-
--- what is printed for an input
-unfoldable pub printed : List ℕ → List ℕ
-printed input = printedFor (reading (judged input))
 
 -- What is handed out for an input: 5,919 bytes, zero past what is printed, and how many are printed
 pub record Print (input held : List ℕ) (count : ℕ) : Type 0 where

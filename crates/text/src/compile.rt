@@ -18,7 +18,8 @@ ghost use lib.ListN.{length};
 ghost use Rattle.table_texts.specs.Read.{given};
 ghost use Rattle.table_texts.specs.Design.{mixedDesign, kroneckerDesign};
 ghost use Rattle.listing_writing.specs.Write.{WriteListing};
-ghost use Rattle.text.specs.Compile.{answerListing, compiled, bufferAfter, Compile};
+ghost use Rattle.text.specs.Compile.{Compile};
+ghost use Rattle.text.specs.inner.Compiled.{answerListing, compiled, bufferAfter};
 ghost use Rattle.table_texts.specs.Accepted.{Accepted};
 
 // The text call's answer: the length of the listing that was written, or declined with document 01's number and line.

@@ -5,7 +5,7 @@ use Prim.Native.Nat.{ℕ, zero, suc, _+_, _*_, _/_, _<_}
 use native.Mathlib.Omega.{arith}
 use Rattle.expansions.specs.declared.kinds.Class.{Class}
 use Rattle.expansions.specs.declared.families.Family.{Family}
-use Rattle.expansions.specs.Answers.{leastChoice}
+use Rattle.expansions.specs.inner.Answer.{leastChoice}
 use Rattle.expansions.specs.Rules.{ruleOf}
 use Rattle.expansions.specs.inner.Charges.{usedCharge, chargedTerms, constantIn}
 use Rattle.expansions.proofs.Costs.{ones-zero}

@@ -14,7 +14,7 @@ use lib.Pow.{pow-pos, pow-mono, shr-shr}
 use Rattle.numbers.specs.Words.{byte}
 use Rattle.numbers.proofs.Shifts.{one-shifted}
 use Rattle.numbers.proofs.Words.{byte-zero, byte-lt}
-use Rattle.expansions.specs.Answers.{leastChoice}
+use Rattle.expansions.specs.inner.Answer.{leastChoice}
 use Rattle.expansions.specs.declared.families.Family.{Family}
 use Rattle.expansions.specs.Rules.{ruleOf}
 use Rattle.expansions.specs.Least.{LeastThen, better, firstLeast}

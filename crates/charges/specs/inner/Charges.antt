@@ -6,7 +6,7 @@ use lib.Bits.{bitOr}
 use lib.Count.{ones}
 use Rattle.numbers.specs.Sums.{foldBelow}
 use Rattle.expansions.specs.declared.kinds.Class.{Class}
-use Rattle.expansions.specs.Answers.{leastChoice}
+use Rattle.expansions.specs.inner.Answer.{leastChoice}
 use Rattle.expansions.specs.BlockTable.{choiceEntry}
 use Rattle.expansions.specs.declared.families.Family.{Family}
 use Rattle.expansions.specs.Rules.{ruleOf}

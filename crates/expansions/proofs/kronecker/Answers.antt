@@ -18,7 +18,7 @@ use Rattle.expansions.specs.kronecker.Letters.{IsKind, KroneckerGives, l
 use Rattle.expansions.specs.kronecker.Steps.{kroneckerCoefficient}
 use Rattle.expansions.specs.kronecker.Costs.{kroneckerLiterals, kroneckerCharge}
 use Rattle.expansions.specs.kronecker.Answers.{LettersNotAfter, KroneckerNotAfter, IsKroneckerAnswer, KroneckerMinimal}
-use Rattle.expansions.specs.kronecker.Answers.{kindCharge, answerKind, answerLetters, answerCoefficient}
+use Rattle.expansions.specs.inner.KroneckerAnswer.{kindCharge, answerKind, answerLetters, answerCoefficient}
 use Rattle.expansions.proofs.kronecker.Letters.{three-pos, letter-lt, letters-zero, kind-lt, kind-of-letters, kind-ext, letters-order, letters-antisym}
 use Rattle.expansions.proofs.kronecker.Values.{kronecker-value-ext, kronecker-value-letters, kronecker-unique}
 use Rattle.expansions.proofs.kronecker.Steps.{kronecker-gives, kronecker-coefficient-ext, kronecker-coefficient-lt}

@@ -16,7 +16,7 @@ use Rattle.expansions.specs.kronecker.Letters.{Literal, absent, plain, c
 use Rattle.expansions.specs.kronecker.Letters.{IsKind, KroneckerGives, lettersOf, kindNumber}
 use Rattle.expansions.specs.kronecker.Steps.{kroneckerCoefficient}
 use Rattle.expansions.specs.kronecker.Costs.{termLiterals, kroneckerLiterals, kroneckerCharge}
-use Rattle.expansions.specs.kronecker.Answers.{kindCharge}
+use Rattle.expansions.specs.inner.KroneckerAnswer.{kindCharge}
 use Rattle.expansions.proofs.kronecker.Letters.{letters-of-kind}
 use Rattle.expansions.proofs.kronecker.Values.{kronecker-value-letters}
 use Rattle.expansions.proofs.kronecker.Steps.{kronecker-coefficient-unique}

@@ -16,7 +16,7 @@ use Rattle.expansions.specs.Rules.{weight, ruleOf}
 use Rattle.expansions.specs.kronecker.Letters.{literalOf, literalCount, lettersOf}
 use Rattle.expansions.specs.kronecker.Steps.{stepValue, kroneckerCoefficient}
 use Rattle.expansions.specs.kronecker.Costs.{termLiterals, kroneckerCharge}
-use Rattle.expansions.specs.kronecker.Answers.{kindCharge}
+use Rattle.expansions.specs.inner.KroneckerAnswer.{kindCharge}
 use Rattle.expansions.specs.inner.KroneckerWalk.{weightOf, Halves, score, Among, Lowered, AtPlace}
 use Rattle.expansions.proofs.kronecker.Halves.{half-lt, fold-halves}
 use Rattle.expansions.proofs.kronecker.Letters.{digit-low, digit-top}

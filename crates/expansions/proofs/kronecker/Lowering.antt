@@ -13,7 +13,7 @@ use Rattle.expansions.proofs.Costs.{products-le}
 use Rattle.expansions.proofs.Least.{then-le, then-from, then-map, then-digits, IsFirst, first-unique}
 use Rattle.expansions.specs.kronecker.Letters.{lettersOf}
 use Rattle.expansions.specs.kronecker.Steps.{kroneckerCoefficient}
-use Rattle.expansions.specs.kronecker.Answers.{kindCharge, answerKind}
+use Rattle.expansions.specs.inner.KroneckerAnswer.{kindCharge, answerKind}
 use Rattle.expansions.specs.inner.KroneckerWalk.{score, Among, Lowered}
 use Rattle.expansions.proofs.kronecker.Letters.{three-pos}
 use Rattle.expansions.proofs.kronecker.Costs.{kronecker-charge-parts, kronecker-literals-lt}

@@ -10,7 +10,8 @@ use Rattle.numbers.proofs.Tests.{only-zero}
 use Rattle.expansions.specs.Costs.{counted}
 use Rattle.expansions.specs.kronecker.Letters.{kroneckerValue}
 use Rattle.expansions.specs.kronecker.Costs.{kroneckerLiterals}
-use Rattle.expansions.specs.kronecker.Answers.{LettersNotAfter, IsKroneckerAnswer, answerLetters, answerCoefficient}
+use Rattle.expansions.specs.kronecker.Answers.{LettersNotAfter, IsKroneckerAnswer}
+use Rattle.expansions.specs.inner.KroneckerAnswer.{answerLetters, answerCoefficient}
 use Rattle.expansions.proofs.Costs.{products-zero}
 use Rattle.expansions.proofs.Least.{then-from}
 use Rattle.expansions.proofs.kronecker.Answers.{kronecker-answer-only, answer-letters-zero, answer-coefficient-zero}

@@ -11,7 +11,7 @@ use Rattle.expansions.specs.Rules.{weight, ruleOf}
 use Rattle.expansions.specs.kronecker.Letters.{lettersOf}
 use Rattle.expansions.specs.kronecker.Steps.{stepValue, kroneckerStep, kroneckerCoefficient}
 use Rattle.expansions.specs.kronecker.Costs.{termLiterals}
-use Rattle.expansions.specs.kronecker.Answers.{kindCharge}
+use Rattle.expansions.specs.inner.KroneckerAnswer.{kindCharge}
 
 -- ---- steps
 

@@ -1,18 +1,13 @@
--- The answer among the Kronecker expansions, twice. First as document 02 says it: the expansion of one of the 3 ^ n kinds that gives the table
--- and comes first. Then as a function. The function's result is that expansion, and the only one (proofs/kronecker/Answers,
--- `kronecker-answer-is`, `kronecker-answer-only`).
-use mathlib.Core.Bool.{true}
+-- The answer among the Kronecker expansions, as document 02 says it: the expansion of one of the 3 ^ n kinds that gives the table and comes first. There is
+-- one only (proofs/kronecker/Answers, `kronecker-answers-same`). The function that finds it stands in inner/KroneckerAnswer.
 use mathlib.Core.Path.{_≡_}
-use Prim.Native.Nat.{ℕ, zero, suc, _^_}
-use lib.Dec.{ltb}
-use Rattle.numbers.specs.Tests.{only}
+use Prim.Native.Nat.{ℕ, zero, suc}
 use Rattle.expansions.specs.Costs.{products}
 use Rattle.expansions.specs.declared.families.Family.the-variants.{One}
 use Rattle.expansions.specs.Rules.{NoDearer}
-use Rattle.expansions.specs.Least.{LeastThen, firstLeast, chosen}
-use Rattle.expansions.specs.kronecker.Letters.{IsKind, KroneckerGives, lettersOf}
-use Rattle.expansions.specs.kronecker.Steps.{kroneckerCoefficient}
-use Rattle.expansions.specs.kronecker.Costs.{kroneckerLiterals, kroneckerCharge}
+use Rattle.expansions.specs.Least.{LeastThen}
+use Rattle.expansions.specs.kronecker.Letters.{IsKind, KroneckerGives}
+use Rattle.expansions.specs.kronecker.Costs.{kroneckerLiterals}
 
 -- ---- the answer in document 02's words
 
@@ -39,21 +34,3 @@ pub record KroneckerMinimal (n : ℕ) (f letters c : ℕ → ℕ) (p l : ℕ) : 
   pub literals-counted : l ≡ kroneckerLiterals n letters c
   -- "Demand 3 holds for `K` too, its rivals all expansions of these 3^n kinds that give the same outputs": each costs at least as much
   pub cheapest : (b d : ℕ → ℕ) → IsKind n b → KroneckerGives n b d f → NoDearer One p l (products n d) (kroneckerLiterals n b d)
-
--- ---- the answer as a function
-
--- what the kind with the number x costs
-unfoldable pub kindCharge : ℕ → (ℕ → ℕ) → ℕ → ℕ
-kindCharge n f x = kroneckerCharge n (lettersOf x) (kroneckerCoefficient n (lettersOf x) f)
-
--- the first least of the 3 ^ n kinds, by its number
-unfoldable pub answerKind : ℕ → (ℕ → ℕ) → ℕ
-answerKind n f = chosen (firstLeast (3 ^ n) (λ x. true) (kindCharge n f))
-
--- the answer's letter of input i, and 0 where there is no input i
-abbrev pub answerLetters : ℕ → (ℕ → ℕ) → ℕ → ℕ
-answerLetters n f = lettersOf (answerKind n f)
-
--- the answer's coefficient of the term t, "zero from 2^n on"
-unfoldable pub answerCoefficient : ℕ → (ℕ → ℕ) → ℕ → ℕ
-answerCoefficient n f t = only (ltb t (2 ^ n)) (kroneckerCoefficient n (answerLetters n f) f t)

@@ -14,12 +14,13 @@ use Rattle.expansions.specs.Costs.{products}
 use Rattle.expansions.specs.kronecker.Letters.{lettersOf}
 use Rattle.expansions.specs.kronecker.Steps.{kroneckerCoefficient}
 use Rattle.expansions.specs.kronecker.Costs.{kroneckerLiterals}
-use Rattle.expansions.specs.kronecker.Answers.{kindCharge, answerKind, answerLetters, answerCoefficient}
+use Rattle.expansions.specs.inner.KroneckerAnswer.{kindCharge, answerKind, answerLetters, answerCoefficient}
 use Rattle.expansions.proofs.Costs.{products-le}
 use Rattle.expansions.proofs.kronecker.Costs.{kronecker-literals-le}
 use Rattle.expansions.proofs.kronecker.Answers.{answer-coefficient-zero, answer-coefficient-lt, answer-letter-lt, answer-letters-zero}
 use Rattle.expansions.proofs.kronecker.Answers.{answer-products, answer-literals, kronecker-answer-minimal, answer-kind-ext, answer-coefficient-ext}
-use Rattle.kronecker.specs.Expansion.{answerKronecker, KroneckerAnswered}
+use Rattle.kronecker.specs.Expansion.{KroneckerAnswered}
+use Rattle.kronecker.specs.inner.Answer.{answerKronecker}
 
 module _ (n : ℕ) (f : ℕ → ℕ) (hn : n ≤ 8) where
   -- ---- the record's places

@@ -9,7 +9,8 @@ use Rattle.numbers.specs.Refusals.{isTable}
 use Rattle.numbers.proofs.Tables.{tabulate-zero}
 use Rattle.expansions.proofs.Costs.{products-zero}
 use Rattle.expansions.proofs.kronecker.Zero.{no-literals, zero-letters, zero-coefficients}
-use Rattle.kronecker.specs.Expansion.{answerKronecker, emptyKronecker, searchedKronecker}
+use Rattle.kronecker.specs.Expansion.{emptyKronecker}
+use Rattle.kronecker.specs.inner.Answer.{answerKronecker, searchedKronecker}
 use Rattle.kronecker.proofs.answer.Searchable.{allowed-table}
 
 pub kronecker-of-zero : (n : ℕ) (f : ℕ → ℕ) → n ≤ 8 → ((p : ℕ) → p < 2 ^ n → f p ≡ 0) → answerKronecker n f ≡ emptyKronecker

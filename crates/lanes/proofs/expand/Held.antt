@@ -12,7 +12,7 @@ use Rattle.numbers.specs.Bytes.{at}
 use Rattle.numbers.proofs.Bytes.{length-tabulate, at-tabulate}
 use Rattle.numbers.proofs.Pack.{pack-ext}
 use Rattle.algebra.specs.Coefficients.{coefficient}
-use Rattle.expansions.specs.Answers.{blockFunction}
+use Rattle.expansions.specs.inner.Answer.{blockFunction}
 use Rattle.expansions.specs.Classes.{choices, placeCoefficient}
 use Rattle.expansions.specs.BlockTable.{choiceEntry}
 use Rattle.expansions.specs.Split.{gather, outside, join}

@@ -12,8 +12,9 @@ use Rattle.numbers.proofs.refusals.Outputs.{below-at}
 use Rattle.numbers.proofs.refusals.Judging.{kept}
 use Rattle.expansions.specs.declared.kinds.Class.the-variants.{Block}
 use Rattle.expansions.specs.declared.families.Family.the-variants.{One}
-use Rattle.expansions.specs.Answers.{Minimal, answerChoice, answerCoefficient}
-use Rattle.search.specs.Expansion.{answerExpansion}
+use Rattle.expansions.specs.Answers.{Minimal}
+use Rattle.expansions.specs.inner.Answer.{answerChoice, answerCoefficient}
+use Rattle.search.specs.inner.Answer.{answerExpansion}
 use Rattle.minimise_calls.specs.Calls.{minimiseRefusal, minimised, Minimise}
 use Rattle.search.specs.declared.expansion.Expansion.{Expansion}
 use Rattle.minimise_calls.specs.declared.calls.Minimised.the-variants.{Found, Refused}

@@ -9,7 +9,7 @@ use lib.Pow.{pow-pos}
 use Rattle.numbers.specs.Sums.{foldBelow, sumBelow}
 use Rattle.numbers.proofs.Shifts.{one-shifted, points-le}
 use Rattle.expansions.specs.Classes.{choices}
-use Rattle.expansions.specs.Answers.{leastChoice, pairCharge}
+use Rattle.expansions.specs.inner.Answer.{leastChoice, pairCharge}
 use Rattle.expansions.proofs.Costs.{sum-le}
 use Rattle.expansions.proofs.BlockTable.{choices-held}
 use Rattle.expansions.proofs.Classes.{choices-some}

@@ -16,7 +16,7 @@ use Rattle.expansions.specs.declared.families.Family.{Family}
 use Rattle.expansions.specs.Rules.{ruleOf}
 use Rattle.expansions.specs.Least.{firstLeast}
 use Rattle.expansions.specs.Classes.{choices}
-use Rattle.expansions.specs.Answers.{validPair, pairCharge, blockCharge}
+use Rattle.expansions.specs.inner.Answer.{validPair, pairCharge, blockCharge}
 use Rattle.expansions.specs.Split.{gather, spread, outside}
 use Rattle.expansions.proofs.Least.{leading-skip, leading-take, leading-keep}
 use Rattle.expansions.proofs.Masks.{valid-from, valid-size, valid-clear}

@@ -8,7 +8,7 @@ use lib.ListN.{length}
 use Rattle.numbers.specs.Bytes.{at}
 use Rattle.expansions.specs.Rules.{ruleOf}
 use Rattle.expansions.specs.Classes.{choices}
-use Rattle.expansions.specs.Answers.{pairCharge, blockCharge}
+use Rattle.expansions.specs.inner.Answer.{pairCharge, blockCharge}
 use Rattle.expansions.specs.Split.{gather, spread, outside}
 use Rattle.expansions.proofs.Split.{gather-zero, gather-spread, ones-others}
 use Rattle.charges.proofs.Held.{held-pair, pairCharge-lt}

@@ -14,7 +14,7 @@ use Rattle.expansions.specs.declared.kinds.Class.{Class}
 use Rattle.expansions.specs.Classes.{choices}
 use Rattle.expansions.specs.declared.families.Family.{Family}
 use Rattle.expansions.specs.Rules.{ruleOf}
-use Rattle.expansions.specs.Answers.{blockCharge, leastChoice, pairCharge, validPair}
+use Rattle.expansions.specs.inner.Answer.{blockCharge, leastChoice, pairCharge, validPair}
 use Rattle.charges.specs.inner.Charges.{chargeFrom}
 use Rattle.lanes.specs.declared.sizes.Sizes.{Sizes}
 use Rattle.pairs.specs.declared.leader.Leader.{Leader}

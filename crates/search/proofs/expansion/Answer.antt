@@ -9,16 +9,13 @@ use Rattle.numbers.specs.Bytes.{at, tabulate}
 use Rattle.expansions.specs.declared.kinds.Class.{Class}
 use Rattle.expansions.specs.declared.families.Family.{Family}
 use Rattle.expansions.specs.Classes.{choices}
-use Rattle.expansions.specs.Answers.{answerChoice, answerCoefficient, Minimal}
-use Rattle.search.specs.Expansion.{answerExpansion}
+use Rattle.expansions.specs.inner.Answer.{answerChoice, answerCoefficient}
+use Rattle.search.specs.Expansion.{Answered}
+use Rattle.search.specs.inner.Answer.{answerExpansion}
 use Rattle.numbers.proofs.Tables.{at-whole}
 use Rattle.expansions.proofs.Costs.{products-le, literals-le}
 use Rattle.expansions.proofs.Answers.{answer-coefficient-zero, answer-choice-zero, answer-member, answer-minimal, answer-ext, answer-inverted-lt, answer-coefficient-lt, answer-choice-lt}
 use Rattle.search.specs.declared.expansion.Expansion.{Expansion}
-
--- the record holds the family's answer for the table f: "the member that gives the table with fewest products, .."
-abbrev pub Answered : Class → Family → ℕ → ℕ → (ℕ → ℕ) → Expansion → Type 0
-Answered C F n k f e = Minimal C F n k f (e .inverted) (e .mixed) (e .fixed) (at (e .blocks)) (at (e .coefficients)) (e .products) (e .literals)
 
 -- ---- the answer's places, in a table that holds all that are not 0
 

@@ -20,7 +20,8 @@ use Rattle.expansions.specs.Classes.{apart}
 use Rattle.expansions.specs.Members.{block, place, polarity, Member, Gives}
 use Rattle.expansions.specs.Rules.{costOf, tieOf}
 use Rattle.expansions.specs.Costs.{counted, products, literals}
-use Rattle.expansions.specs.Answers.{Minimal, memberCoefficient, withoutConstant}
+use Rattle.expansions.specs.Answers.{Minimal}
+use Rattle.expansions.specs.inner.Answer.{memberCoefficient, withoutConstant}
 use Rattle.expansions.proofs.Least.{below-one-more, then-le, then-rest}
 use Rattle.expansions.proofs.Counted.{counted-le, counted-mul}
 use Rattle.expansions.proofs.Costs.{sum-le, terms-apart, products-le, literals-most}

@@ -19,8 +19,10 @@ use Rattle.expansions.specs.declared.families.Family.{Family}
 use Rattle.expansions.specs.declared.families.Family.the-variants.{One, Two}
 use Rattle.expansions.specs.Rules.{costOf, tieOf}
 use Rattle.expansions.specs.Costs.{counted, literals}
-use Rattle.expansions.specs.Answers.{IsAnswer, answerInverted, answerMixed, answerFixed, answerChoice, answerCoefficient}
-use Rattle.search.specs.Expansion.{answerExpansion, emptyExpansion, searchable, searched}
+use Rattle.expansions.specs.Answers.{IsAnswer}
+use Rattle.expansions.specs.inner.Answer.{answerInverted, answerMixed, answerFixed, answerChoice, answerCoefficient}
+use Rattle.search.specs.Expansion.{emptyExpansion}
+use Rattle.search.specs.inner.Answer.{answerExpansion, searchable, searched}
 use Rattle.expansions.proofs.Costs.{products-zero}
 use Rattle.expansions.proofs.Least.{then-from}
 use Rattle.expansions.proofs.Lowest.{lowest-member, lowest-first}

@@ -9,11 +9,11 @@ use lib.Bits.{bitAnd}
 use lib.ListN.{set}
 use Rattle.numbers.specs.Bytes.{at, tabulate}
 use Rattle.numbers.proofs.Bytes.{at-tabulate}
-use Rattle.expansions.specs.Answers.{answerInverted, answerMixed, answerFixed, answerCoefficient, expandedCoefficient}
+use Rattle.expansions.specs.inner.Answer.{answerInverted, answerMixed, answerFixed, answerCoefficient, expandedCoefficient}
 use Rattle.expansions.specs.Classes.{apart}
 use Rattle.expansions.specs.Rules.{ruleOf}
 use Rattle.expansions.specs.Split.{gather, outside}
-use Rattle.search.specs.Expansion.{answerExpansion}
+use Rattle.search.specs.inner.Answer.{answerExpansion}
 use Rattle.lanes.specs.inner.Lanes.{blockLanes}
 use Rattle.lanes.specs.inner.Sizes.{Limits}
 use Rattle.lanes.specs.inner.Terms.{coefficientAt}

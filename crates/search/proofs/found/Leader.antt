@@ -12,7 +12,7 @@ use Rattle.expansions.specs.declared.families.Family.{Family}
 use Rattle.expansions.specs.Rules.{ruleOf}
 use Rattle.expansions.specs.Costs.{products, literals}
 use Rattle.expansions.proofs.Costs.{charge, charge-products, charge-literals}
-use Rattle.expansions.specs.Answers.{leastPair, answerPair, answerMixed, answerFixed, answerChoice, answerCoefficient}
+use Rattle.expansions.specs.inner.Answer.{leastPair, answerPair, answerMixed, answerFixed, answerChoice, answerCoefficient}
 use Rattle.pairs.specs.inner.Pairs.{pairValid, pairCost, Leads}
 use Rattle.pairs.specs.declared.leader.Leader.{Leader}
 use Rattle.expansions.proofs.Least.{leading-chosen}

@@ -14,7 +14,7 @@ use Rattle.numbers.proofs.Bytes.{tabulate-ext}
 use Rattle.expansions.specs.Classes.{apart}
 use Rattle.expansions.specs.Members.{block, place, Member}
 use Rattle.expansions.specs.Split.{gather, outside}
-use Rattle.expansions.specs.Answers.{memberCoefficient, answerMixed, answerFixed, answerChoice, expandedCoefficient, withoutConstant}
+use Rattle.expansions.specs.inner.Answer.{memberCoefficient, answerMixed, answerFixed, answerChoice, expandedCoefficient, withoutConstant}
 use Rattle.lanes.specs.inner.Lanes.{blockLanes}
 use Rattle.lanes.specs.inner.Sizes.{Limits, MixedSet}
 use Rattle.lanes.specs.inner.Terms.{coefficientAt}

@@ -6,7 +6,7 @@ use Rattle.numbers.specs.Tests.{only}
 use Rattle.expansions.specs.declared.kinds.Class.{Class}
 use Rattle.expansions.specs.Classes.{choices}
 use Rattle.expansions.specs.declared.families.Family.{Family}
-use Rattle.expansions.specs.Answers.{leastChoice}
+use Rattle.expansions.specs.inner.Answer.{leastChoice}
 use Rattle.charges.specs.inner.Charges.{chargeFrom}
 
 -- the first least choice of block j, from the block functions, and 0 where there is no block j

@@ -10,8 +10,8 @@ use lib.Dec.{leb}
 use lib.ListN.{length, take, drop}
 use lib.Seq.{take-append-seam}
 use Rattle.numbers.specs.Bytes.{at}
-use Rattle.search.specs.Expansion.{answerExpansion}
-use Rattle.kronecker.specs.Expansion.{answerKronecker}
+use Rattle.search.specs.inner.Answer.{answerExpansion}
+use Rattle.kronecker.specs.inner.Answer.{answerKronecker}
 use Rattle.search.proofs.expansion.Answer.{answerExpansion-is, expansion-coefficients-lt, expansion-inverted-lt}
 use Rattle.expansions.specs.declared.families.Family.{Family}
 use Rattle.expansions.specs.declared.families.Family.the-variants.{One, Two}
@@ -26,7 +26,8 @@ use Rattle.text.specs.declared.compile.Compiled.{Compiled}
 use Rattle.text.specs.declared.compile.Compiled.the-variants.{Written, Refused}
 use Rattle.table_texts.specs.Accepted.{Accepted}
 use Rattle.table_texts.specs.Read.{Reading, given, refused, reading, standsFor}
-use Rattle.text.specs.Compile.{kindListing, answerListing, compiled, bufferAfter, Chosen, Compile}
+use Rattle.text.specs.Compile.{Chosen, Compile}
+use Rattle.text.specs.inner.Compiled.{kindListing, answerListing, compiled, bufferAfter}
 use Rattle.listings.specs.Meaning.{IsListing}
 use Rattle.listings.specs.Listing.{formFields, listingWith, listing}
 use Rattle.listings.specs.Kronecker.{kroneckerListing}

@@ -18,10 +18,10 @@ use Rattle.numbers.proofs.refusals.Outputs.{below-from}
 use Rattle.expansions.specs.declared.kinds.Class.{Class}
 use Rattle.expansions.specs.declared.families.Family.{Family}
 use Rattle.expansions.specs.Classes.{mostMixed}
-use Rattle.search.specs.Expansion.{answerExpansion, searched}
+use Rattle.search.specs.inner.Answer.{answerExpansion, searched}
 use Rattle.search.proofs.expansion.Answer.{answerExpansion-is, answerExpansion-ext}
 use Rattle.search.proofs.answer.Searchable.{searched-answer}
-use Rattle.kronecker.specs.Expansion.{answerKronecker, searchedKronecker}
+use Rattle.kronecker.specs.inner.Answer.{answerKronecker, searchedKronecker}
 use Rattle.kronecker.proofs.expansion.Answer.{answerKronecker-is, answerKronecker-ext}
 use Rattle.kronecker.proofs.answer.Searchable.{searched-kronecker}
 use Rattle.table_texts.specs.declared.sizes.Design.{Design}
@@ -34,7 +34,7 @@ use Rattle.listing_writing.specs.declared.listed.Listed.the-variants as listed
 use Rattle.listing_writing.specs.Write.{WriteListing, KroneckerListable}
 use Rattle.text.specs.declared.compile.Compiled.{Compiled}
 use Rattle.text.specs.declared.compile.Compiled.the-variants.{Written, Refused}
-use Rattle.text.specs.Compile.{answerListing, compiled, bufferAfter}
+use Rattle.text.specs.inner.Compiled.{answerListing, compiled, bufferAfter}
 
 module _ (n m : ℕ) (table : List ℕ) (s : TableSized n m) (t : Table n m table) where
   size-le : 2 ^ n ≤ 256

@@ -20,8 +20,10 @@ use Rattle.table_texts.specs.Read.{Reading, given, refused, reading}
 use Rattle.writing.specs.Put.{Put}
 use Rattle.listings.specs.Meaning.{firstNumbers, IsListing}
 use Rattle.listings.specs.AnswerListing.{IsAnswerListing}
-use Rattle.text.specs.Compile.{answerListing, compiled, bufferAfter, Compile}
-use Rattle.text.specs.Print.{judged, refusedLine, printedFor, printed, Print}
+use Rattle.text.specs.Compile.{Compile}
+use Rattle.text.specs.inner.Compiled.{answerListing, compiled, bufferAfter}
+use Rattle.text.specs.Print.{judged, refusedLine, Print}
+use Rattle.text.specs.inner.Printed.{printedFor, printed}
 use Rattle.table_texts.proofs.read.Accepted.{reading-accepted}
 use Rattle.table_texts.proofs.Refusals.{text-refusals}
 use Rattle.table_texts.proofs.Exactness.{accepted-exactly}

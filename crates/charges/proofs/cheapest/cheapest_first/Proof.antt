@@ -6,7 +6,7 @@ use native.Mathlib.Omega.{arith}
 use lib.Bits.{bitAnd}
 use Rattle.numbers.specs.Bytes.{at}
 use Rattle.expansions.specs.Classes.{choices}
-use Rattle.expansions.specs.Answers.{leastChoice}
+use Rattle.expansions.specs.inner.Answer.{leastChoice}
 use Rattle.expansions.proofs.BlockTable.{choices-held}
 use Rattle.expansions.proofs.Classes.{choices-some}
 use Rattle.expansions.proofs.Minimal.{choice-first}

@@ -4,7 +4,7 @@ use borrow.Author.Tests.{lt-ltb, le-ltb, eq-eqb, ne-eqb}
 use Prim.Native.Nat.{_^_, _≤_, _<_}
 use native.Mathlib.Omega.{arith}
 use Rattle.numbers.proofs.Shifts.{one-shifted}
-use Rattle.expansions.specs.Answers.{validPair}
+use Rattle.expansions.specs.inner.Answer.{validPair}
 use Rattle.membership.specs.Class.{legalPair}
 use Rattle.fitter.proofs.class.legal_pair.Statement.{statement}
 use Rattle.fitter.proofs.class.legal_pair.Tie as tie

@@ -1,8 +1,8 @@
 -- `find_kronecker` meets its contract.
 use borrow.Author.Needs.{needs}
 use mathlib.Core.Path.{sym, _∙_}
-use Rattle.kronecker.specs.Expansion.{searchedKronecker}
-use Rattle.kronecker.proofs.answer.Searchable.{allowed-table}
+use Rattle.kronecker.specs.inner.Answer.{searchedKronecker}
+use Rattle.kronecker.proofs.answer.Searchable.{allowed-table, searched-found}
 use Rattle.kronecker.proofs.answer.find_kronecker.Statement.{statement}
 use Rattle.kronecker.proofs.answer.find_kronecker.Tie as tie
 
@@ -14,14 +14,14 @@ search-kinds-requires c κs = allowed-table _ _ _ (sym (c .before .is-table .ens
 
 returns : tie.Need-returns
 unfolding searchedKronecker
-returns c = c .search-kinds .ensures ∙ sym (rw (sym (c .before .before .is-table .ensures) ∙ c .before .if1 .taken))
+returns c = searched-found _ _ _ _ (c .search-kinds .ensures ∙ sym (rw (sym (c .before .before .is-table .ensures) ∙ c .before .if1 .taken)))
 
 empty-requires : tie.Need-empty-requires
 empty-requires c κs = search needs
 
 returns-2 : tie.Need-returns-2
 unfolding searchedKronecker
-returns-2 c = c .empty .ensures ∙ sym (rw (sym (c .before .before .is-table .ensures) ∙ c .before .if1 .left))
+returns-2 c = searched-found _ _ _ _ (c .empty .ensures ∙ sym (rw (sym (c .before .before .is-table .ensures) ∙ c .before .if1 .left)))
 
 pub find-kronecker-spec : {M : Type 1} → statement M
 find-kronecker-spec =

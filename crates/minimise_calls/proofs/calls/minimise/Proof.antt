@@ -43,7 +43,7 @@ returns-2 c =
     let passed = searched .before in
     let a = accepted passed in
     minimise-found _ _ _ _ _ _ _ _ _ (sym (passed .before .first-refusal .ensures) ∙ passed .if1 .left)
-    (searched .find-answer .ensures ∙ searched-answer Block One _ _ _ _ (a .sized) (a .table-long) (a .clean))
+    (searched .find-answer .ensures .handed-up ∙ searched-answer Block One _ _ _ _ (a .sized) (a .table-long) (a .clean))
     (copied .copy-places .ensures) (c .before .before .copy-places2 .ensures)
 
 pub minimise-spec : {M : Type 1} → statement M

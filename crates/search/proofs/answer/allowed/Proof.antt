@@ -5,7 +5,7 @@ use Prim.Native.Nat.{ℕ}
 use lib.Dec.{eqb}
 use Rattle.expansions.specs.Classes.{mostMixed}
 use Rattle.numbers.specs.Refusals.{sizesRefusal}
-use Rattle.search.specs.Expansion.{searchable}
+use Rattle.search.specs.inner.Answer.{searchable}
 use Rattle.search.proofs.answer.allowed.Statement.{statement}
 use Rattle.search.proofs.answer.allowed.Tie as tie
 

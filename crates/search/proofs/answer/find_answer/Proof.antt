@@ -1,8 +1,8 @@
 -- `find_answer` meets its contract.
 use borrow.Author.Needs.{needs}
 use mathlib.Core.Path.{sym, _∙_}
-use Rattle.search.specs.Expansion.{searched}
-use Rattle.search.proofs.answer.Searchable.{allowed-sizes, allowed-table}
+use Rattle.search.specs.inner.Answer.{searched}
+use Rattle.search.proofs.answer.Searchable.{allowed-sizes, allowed-table, searched-found}
 use Rattle.search.proofs.answer.find_answer.Statement.{statement}
 use Rattle.search.proofs.answer.find_answer.Tie as tie
 
@@ -16,14 +16,14 @@ search-allowed-requires c κs =
 
 returns : tie.Need-returns
 unfolding searched
-returns c = c .search-allowed .ensures ∙ sym (rw (sym (c .before .before .allowed .ensures) ∙ c .before .if1 .taken))
+returns c = searched-found _ _ _ _ _ _ _ (c .search-allowed .ensures ∙ sym (rw (sym (c .before .before .allowed .ensures) ∙ c .before .if1 .taken)))
 
 empty-requires : tie.Need-empty-requires
 empty-requires c κs = search needs
 
 returns-2 : tie.Need-returns-2
 unfolding searched
-returns-2 c = c .empty .ensures ∙ sym (rw (sym (c .before .before .allowed .ensures) ∙ c .before .if1 .left))
+returns-2 c = searched-found _ _ _ _ _ _ _ (c .empty .ensures ∙ sym (rw (sym (c .before .before .allowed .ensures) ∙ c .before .if1 .left)))
 
 pub find-answer-spec : {M : Type 1} → statement M
 find-answer-spec =

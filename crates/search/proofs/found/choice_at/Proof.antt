@@ -8,7 +8,7 @@ use Rattle.numbers.specs.Bytes.{at}
 use Rattle.numbers.proofs.Shifts.{one-shifted}
 use Rattle.search.specs.inner.Search.{choiceAt}
 use Rattle.expansions.specs.Classes.{choices}
-use Rattle.expansions.specs.Answers.{leastChoice}
+use Rattle.expansions.specs.inner.Answer.{leastChoice}
 use Rattle.expansions.proofs.Classes.{choices-some}
 use Rattle.numbers.proofs.Tests.{only-below, only-above}
 use Rattle.charges.specs.inner.Charges.{chargeFrom, allFrom}

@@ -4,7 +4,7 @@ use mathlib.Core.Path.{sym, ap, subst}
 use Rattle.table_texts.specs.declared.sizes.Design.{Design}
 use Rattle.table_texts.specs.Accepted.{Accepted}
 use Rattle.table_texts.proofs.Design.{mixed-design, kronecker-design}
-use Rattle.text.specs.Compile.{answerListing}
+use Rattle.text.specs.inner.Compiled.{answerListing}
 use Rattle.text.proofs.compile.Tables.{written-as}
 use Rattle.text.proofs.compile.write_answer.Statement.{statement}
 use Rattle.text.proofs.compile.write_answer.Tie as tie

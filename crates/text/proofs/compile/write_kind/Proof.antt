@@ -4,11 +4,11 @@ use mathlib.Core.Path.{_≡_, sym, ap, subst, _∙_}
 use lib.Seq.{length-take-le}
 use Rattle.numbers.specs.Bytes.{at}
 use Rattle.kronecker.specs.declared.expansion.KroneckerExpansion.{KroneckerExpansion}
-use Rattle.kronecker.specs.Expansion.{answerKronecker}
+use Rattle.kronecker.specs.inner.Answer.{answerKronecker}
 use Rattle.table_texts.specs.Design.{kroneckerDesign}
 use Rattle.table_texts.proofs.Design.{table-sized}
 use Rattle.listing_writing.specs.Write.{recordListing, KroneckerListable}
-use Rattle.text.specs.Compile.{answerListing}
+use Rattle.text.specs.inner.Compiled.{answerListing}
 use Rattle.text.proofs.compile.Tables.{part-within, searched-kind, kind-listable, written-as}
 use Rattle.text.proofs.compile.write_kind.Statement.{statement}
 use Rattle.text.proofs.compile.write_kind.Tie as tie
@@ -19,7 +19,7 @@ found : (c : tie.After-find-kronecker)
     c .find-kronecker .result ≡ answerKronecker (a .n) (at (a .table .now))
 found c =
     let s = c .before .before .before .before in
-    c .find-kronecker .ensures ∙ searched-kind _ _ _ (table-sized (kroneckerDesign (s .args .n) (s .args .m)) (s .pre .sized)) (s .pre .table)
+    c .find-kronecker .ensures .handed-up ∙ searched-kind _ _ _ (table-sized (kroneckerDesign (s .args .n) (s .args .m)) (s .pre .sized)) (s .pre .table)
 
 shl-size : tie.Need-shl-size
 shl-size c = search needs

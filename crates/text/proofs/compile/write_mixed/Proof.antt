@@ -4,12 +4,12 @@ use mathlib.Core.Path.{_≡_, refl, sym, ap, subst, _∙_}
 use lib.Seq.{length-take-le}
 use Rattle.numbers.specs.Bytes.{at}
 use Rattle.search.specs.declared.expansion.Expansion.{Expansion}
-use Rattle.search.specs.Expansion.{answerExpansion}
+use Rattle.search.specs.inner.Answer.{answerExpansion}
 use Rattle.table_texts.specs.Design.{mixedDesign}
 use Rattle.table_texts.proofs.Design.{table-sized, mixed-sized}
 use Rattle.listings.specs.Listing.{listing}
 use Rattle.listings.specs.inner.Listable.{Listable}
-use Rattle.text.specs.Compile.{answerListing}
+use Rattle.text.specs.inner.Compiled.{answerListing}
 use Rattle.text.proofs.compile.Tables.{part-within, searched-mixed, mixed-listable, written-as}
 use Rattle.text.proofs.compile.write_mixed.Statement.{statement}
 use Rattle.text.proofs.compile.write_mixed.Tie as tie
@@ -21,7 +21,7 @@ found : (c : tie.After-find-answer)
 found c =
     let s = c .before .before .before .before in
     let d = mixedDesign (s .args .sizes) in
-    c .find-answer .ensures
+    c .find-answer .ensures .handed-up
     ∙ searched-mixed _ _ _ (table-sized d (s .pre .sized)) (s .pre .table) _ _ _ (mixed-sized d _ _ refl (s .pre .sized))
 
 shl-size : tie.Need-shl-size
