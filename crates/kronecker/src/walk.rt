@@ -93,7 +93,7 @@ pub fn walk(
     walk(
         n,
         i + 1,
-        kind + power + power,
+        kind + power + power, // the letter N at input i
         above,
         &other,
         &some,
