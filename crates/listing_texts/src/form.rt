@@ -10,6 +10,8 @@ use fields::words::family_of;
 use fields::words::field;
 use table_texts::sizes::Sizes;
 ghost use mathlib.Core.Path.{_≡_};
+ghost use Rattle.listings.specs.Parts.{field};
+ghost use Rattle.fields.specs.Fields.{number};
 ghost use Rattle.listing_texts.specs.Form.{sizesOf, formOf, firstLine};
 
 // What a first line states: the sizes with the class and the family, the mixed set M and the fixed polarity i as masks, and the counts.
@@ -89,6 +91,13 @@ fn form_of(
     })
 }
 
+// The number that field i of a line says.
+fn number_in(line: &[u8], i: usize) -> Number
+    ensures { λ r. ⌜ r ≡ number 4 (field i (now (line .entry))) ⌝ }
+{
+    read_number(4, field(line, i))
+}
+
 // The first line: its word is that of a family, its numbers have one to four digits, and k has one, after an `f` in the free class.
 pub fn first_line(line: &[u8]) -> FirstLine
     ensures { λ r. ⌜ r ≡ firstLine (now (line .entry)) ⌝ }
@@ -96,17 +105,13 @@ pub fn first_line(line: &[u8]) -> FirstLine
     let FamilyRead::Is(family) = family_of(8, b"form", b"form2", line) else {
         return FirstLine::Wrong;
     };
-    let sizes = sizes_of(
-        family,
-        read_number(4, field(line, 1)),
-        read_number(4, field(line, 2)),
-        mixed_of(field(line, 3)),
-    );
+    let k = mixed_of(field(line, 3));
+    let sizes = sizes_of(family, number_in(line, 1), number_in(line, 2), k);
     form_of(
         sizes,
-        read_number(4, field(line, 4)),
-        read_number(4, field(line, 5)),
-        read_number(4, field(line, 6)),
-        read_number(4, field(line, 7)),
+        number_in(line, 4),
+        number_in(line, 5),
+        number_in(line, 6),
+        number_in(line, 7),
     )
 }

@@ -29,47 +29,29 @@ returns c = rw (← c .before .before .family-of .ensures, c .enum-told .given .
 field-requires : tie.Need-field-requires
 field-requires c κs = search needs
 
-read-number-requires : tie.Need-read-number-requires
-read-number-requires c κs = search needs
-
-field-requires-2 : tie.Need-field-requires-2
-field-requires-2 c κs = search needs
-
-read-number-requires-2 : tie.Need-read-number-requires-2
-read-number-requires-2 c κs = search needs
-
-field-requires-3 : tie.Need-field-requires-3
-field-requires-3 c κs = search needs
-
 mixed-of-requires : tie.Need-mixed-of-requires
 mixed-of-requires c κs = search needs
+
+number-in-requires : tie.Need-number-in-requires
+number-in-requires c κs = search needs
+
+number-in-requires-2 : tie.Need-number-in-requires-2
+number-in-requires-2 c κs = search needs
 
 sizes-of-requires : tie.Need-sizes-of-requires
 sizes-of-requires c κs = search needs
 
-field-requires-4 : tie.Need-field-requires-4
-field-requires-4 c κs = search needs
+number-in-requires-3 : tie.Need-number-in-requires-3
+number-in-requires-3 c κs = search needs
 
-read-number-requires-3 : tie.Need-read-number-requires-3
-read-number-requires-3 c κs = search needs
+number-in-requires-4 : tie.Need-number-in-requires-4
+number-in-requires-4 c κs = search needs
 
-field-requires-5 : tie.Need-field-requires-5
-field-requires-5 c κs = search needs
+number-in-requires-5 : tie.Need-number-in-requires-5
+number-in-requires-5 c κs = search needs
 
-read-number-requires-4 : tie.Need-read-number-requires-4
-read-number-requires-4 c κs = search needs
-
-field-requires-6 : tie.Need-field-requires-6
-field-requires-6 c κs = search needs
-
-read-number-requires-5 : tie.Need-read-number-requires-5
-read-number-requires-5 c κs = search needs
-
-field-requires-7 : tie.Need-field-requires-7
-field-requires-7 c κs = search needs
-
-read-number-requires-6 : tie.Need-read-number-requires-6
-read-number-requires-6 c κs = search needs
+number-in-requires-6 : tie.Need-number-in-requires-6
+number-in-requires-6 c κs = search needs
 
 form-of-requires : tie.Need-form-of-requires
 form-of-requires c κs = search needs
@@ -77,26 +59,21 @@ form-of-requires c κs = search needs
 returns-2 : tie.Need-returns-2
 unfolding firstLine formWord bytes
 returns-2 c =
-    let sizes = c .before .before .before .before .before .before .before .before .before in
+    let sizes = c .before .before .before .before .before in
+    let said = sizes .before .before .before .before .before .before in
     c .form-of .ensures
     ∙ rw (
-      ← sizes .before .before .before .before .before .before .before .before .before .before .family-of .ensures,
-      sizes .before .before .before .before .before .before .before .before .family .given .1,
-      ← sizes .before .before .before .before .before .before .field .ensures,
-      ← sizes .before .before .before .before .before .read-number .ensures,
-      ← sizes .before .before .before .before .field2 .ensures,
-      ← sizes .before .before .before .read-number2 .ensures,
-      ← sizes .before .before .field3 .ensures,
-      ← sizes .before .mixed-of .ensures,
+      ← said .before .before .family-of .ensures,
+      said .family .given .1,
+      ← sizes .before .before .before .before .field .ensures,
+      ← sizes .before .before .before .mixed-of .ensures,
+      ← sizes .before .before .number-in .ensures,
+      ← sizes .before .number-in2 .ensures,
       ← sizes .sizes-of .ensures,
-      ← c .before .before .before .before .before .before .before .before .field4 .ensures,
-      ← c .before .before .before .before .before .before .before .read-number3 .ensures,
-      ← c .before .before .before .before .before .before .field5 .ensures,
-      ← c .before .before .before .before .before .read-number4 .ensures,
-      ← c .before .before .before .before .field6 .ensures,
-      ← c .before .before .before .read-number5 .ensures,
-      ← c .before .before .field7 .ensures,
-      ← c .before .read-number6 .ensures,
+      ← c .before .before .before .before .number-in3 .ensures,
+      ← c .before .before .before .number-in4 .ensures,
+      ← c .before .before .number-in5 .ensures,
+      ← c .before .number-in6 .ensures,
     )
 
 pub first-line-spec : {M : Type 1} → statement M
@@ -110,19 +87,13 @@ first-line-spec =
     enum-told
     returns
     field-requires
-    read-number-requires
-    field-requires-2
-    read-number-requires-2
-    field-requires-3
     mixed-of-requires
+    number-in-requires
+    number-in-requires-2
     sizes-of-requires
-    field-requires-4
-    read-number-requires-3
-    field-requires-5
-    read-number-requires-4
-    field-requires-6
-    read-number-requires-5
-    field-requires-7
-    read-number-requires-6
+    number-in-requires-3
+    number-in-requires-4
+    number-in-requires-5
+    number-in-requires-6
     form-of-requires
     returns-2)
