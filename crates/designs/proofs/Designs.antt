@@ -49,7 +49,7 @@ use Rattle.table_texts.specs.Design.{designRefusal}
 use Rattle.table_texts.specs.First.{dashKind, kindOf, tableWord, firstLine}
 use Rattle.table_texts.specs.Read.{withDesign, judgedFirst, allLines, reading}
 use Rattle.text.specs.inner.Compiled.{answerListing}
-use Rattle.text.specs.Print.{refusedLine}
+use Rattle.text.specs.Judged.{refusedLine}
 use Rattle.text.specs.inner.Printed.{printedFor, printed}
 use Rattle.designs.specs.Designs.{costOf, termsBelow, computed, Design, states, Holds, baseDesigns, freeDesigns, markedDesigns}
 use Rattle.designs.specs.Designs.{orTable, zeroTable, oneTable, pointTable, withoutTable, dearerTable, neitherTable, oppositeTable, printedTable}

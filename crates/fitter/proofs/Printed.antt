@@ -26,7 +26,7 @@ use Rattle.table_texts.proofs.Length.{accepted-text-first}
 use Rattle.listing_texts.specs.Read.{besideKronecker}
 use Rattle.listing_texts.proofs.BesideKronecker.{beside-either, beside-first}
 use Rattle.listing_texts.proofs.Length.{passes-first}
-use Rattle.text.specs.Print.{judged, refusedLine}
+use Rattle.text.specs.Judged.{judged, refusedLine}
 use Rattle.table_texts.proofs.RefusalBounds.{reading-refused}
 use Rattle.text.proofs.print.Refusals.{line-says, refused-line-says, refused-line-le}
 use Rattle.writing.specs.Put.{Put}

@@ -13,7 +13,7 @@ use Rattle.table_texts.specs.declared.sizes.Design.{Design}
 use Rattle.table_texts.specs.Design.{mixedDesign}
 use Rattle.table_texts.specs.Read.{given, reading}
 use Rattle.listing_texts.specs.Listings.{Passes}
-use Rattle.text.specs.Print.{judged, refusedLine}
+use Rattle.text.specs.Judged.{judged, refusedLine}
 use Rattle.fitter.specs.declared.check.Checked.{Checked}
 use Rattle.fitter.specs.declared.check.Checked.the-variants.{Same, Differs, NotOfClass, Refused}
 use Rattle.fitter.specs.Check.{checked, Check}

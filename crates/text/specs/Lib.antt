@@ -1,3 +1,4 @@
 pub mod Compile
 pub mod Print
 pub mod inner
+pub mod Judged

@@ -6,23 +6,13 @@ use Prim.Native.Nat.{ℕ, _-_, _≤_}
 use lib.ListN.{length, take, replicate}
 use Rattle.numbers.specs.Bytes.{at}
 use Rattle.table_texts.specs.declared.sizes.Design.{Design}
-use Rattle.listings.specs.Parts.{bytes}
 use Rattle.table_texts.specs.Accepted.{Accepted}
 use Rattle.table_texts.specs.TableTexts.{IsText}
-use Rattle.table_texts.specs.Read.{refused}
 use Rattle.table_texts.specs.Refusals.{TextRefusals}
-use Rattle.listings.specs.Listing.{line, decimal}
 use Rattle.listings.specs.Meaning.{firstNumbers, IsListing}
 use Rattle.listings.specs.AnswerListing.{IsAnswerListing}
 use Rattle.text.specs.inner.Printed.{printed}
-
--- "judges the first 8,192 bytes of standard input as the whole text"
-abbrev pub judged : List ℕ → List ℕ
-judged input = take 8192 input
-
--- "the line `refused`, number, line"
-unfoldable pub refusedLine : ℕ → ℕ → List ℕ
-refusedLine number l = line (bytes "refused") (decimal number ∷ decimal l ∷ [])
+use Rattle.text.specs.Judged.{judged, refusedLine}
 
 -- What is handed out for an input: 5,919 bytes, zero past what is printed, and how many are printed
 pub record Print (input held : List ℕ) (count : ℕ) : Type 0 where

@@ -8,7 +8,8 @@ ghost use mathlib.Core.Path.{_≡_};
 ghost use Prim.Native.Nat.{_≤_};
 ghost use lib.ListN.{length, take};
 ghost use Rattle.writing.specs.Put.{Put};
-ghost use Rattle.text.specs.Print.{judged, refusedLine, Print};
+ghost use Rattle.text.specs.Print.{Print};
+ghost use Rattle.text.specs.Judged.{judged, refusedLine};
 
 // What is printed: the first `length` of the bytes. The bytes past them are zero.
 pub struct Printed {

@@ -10,7 +10,7 @@ use Rattle.listings.specs.Listing.{tabbed, line, decimal}
 use Rattle.listings.specs.Meaning.{firstNumbers}
 use Rattle.table_texts.specs.Read.{refused, reading}
 use Rattle.table_texts.proofs.RefusalBounds.{reading-refused}
-use Rattle.text.specs.Print.{judged, refusedLine}
+use Rattle.text.specs.Judged.{judged, refusedLine}
 use Rattle.listings.proofs.Joined.{Plain}
 use Rattle.listings.proofs.Lengths.{digitsOf-le, length-numbers}
 use Rattle.listings.proofs.Meaning.{Small, plain-numbers, numbers-said, heading-numbers}

@@ -22,7 +22,8 @@ use Rattle.listings.specs.Meaning.{firstNumbers, IsListing}
 use Rattle.listings.specs.AnswerListing.{IsAnswerListing}
 use Rattle.text.specs.Compile.{Compile}
 use Rattle.text.specs.inner.Compiled.{answerListing, compiled, bufferAfter}
-use Rattle.text.specs.Print.{judged, refusedLine, Print}
+use Rattle.text.specs.Print.{Print}
+use Rattle.text.specs.Judged.{judged, refusedLine}
 use Rattle.text.specs.inner.Printed.{printedFor, printed}
 use Rattle.table_texts.proofs.read.Accepted.{reading-accepted}
 use Rattle.table_texts.proofs.Refusals.{text-refusals}

@@ -3,7 +3,7 @@ use mathlib.Core.List.{List}
 use Prim.Native.Nat.{ℕ}
 use Rattle.table_texts.specs.Read.{Reading, given, refused, reading}
 use Rattle.text.specs.inner.Compiled.{answerListing}
-use Rattle.text.specs.Print.{judged, refusedLine}
+use Rattle.text.specs.Judged.{judged, refusedLine}
 
 -- "the listing, or the line `refused`, number, line", by what the text means
 unfoldable pub printedFor : Reading → List ℕ

@@ -3,7 +3,7 @@ use mathlib.Core.List.{[], _∷_}
 use native.Mathlib.Omega.{arith}
 use Rattle.listings.specs.Parts.{bytes}
 use Rattle.listings.proofs.Lengths.{digitsOf-le}
-use Rattle.text.specs.Print.{refusedLine}
+use Rattle.text.specs.Judged.{refusedLine}
 use Rattle.fitter.specs.Print.{answerLine}
 use borrow.Author.Needs.{needs}
 use Rattle.fitter.proofs.print.write_answer.Statement.{statement}

@@ -4,7 +4,7 @@ use mathlib.Core.List.{[], _∷_}
 use native.Mathlib.Omega.{arith}
 use Rattle.listings.specs.Parts.{bytes}
 use Rattle.listings.proofs.Lengths.{digitsOf-le}
-use Rattle.text.specs.Print.{refusedLine}
+use Rattle.text.specs.Judged.{refusedLine}
 use Rattle.text.proofs.print.write_refused.Statement.{statement}
 use Rattle.text.proofs.print.write_refused.Tie as tie
 
