@@ -3,7 +3,7 @@
 -- table text with `-` for k is judged as with what `-` means (`dash-checked`).
 use mathlib.Core.List.{List, _++_}
 use mathlib.Core.Logic.{_⊎_, inl, inr}
-use mathlib.Core.Path.{_≡_, refl, sym, ap, _∙_}
+use mathlib.Core.Path.{_≡_, refl, sym, ap, subst, _∙_}
 use Prim.Native.Nat.{ℕ, _^_, _≤_, _<_}
 use native.Mathlib.Omega.{arith}
 use Rattle.numbers.specs.Refusals.{Sized}
@@ -27,14 +27,15 @@ use Rattle.listing_texts.specs.declared.form.FirstLine.the-variants.{Wrong}
 use Rattle.listing_texts.specs.Form.{firstLine, KronListing}
 use Rattle.listing_texts.specs.Listings.{Passes}
 use Rattle.listing_texts.specs.Read.{ListingReading, shown, refused, listingReading, besideKronecker}
-use Rattle.lines.specs.FirstBad.{lineAfter, endLine}
+use Rattle.listing_texts.specs.Refusals.{ListingRefusal, first, unlike, second, later, followed, counts}
 use Rattle.listing_texts.proofs.Exactness.{read-passes, passes-exactly}
+use Rattle.listing_texts.proofs.Decided.{listing-decided}
 use Rattle.listing_texts.proofs.FirstLines.{next-refused, follow-refused, counts-refused}
 use Rattle.listing_texts.proofs.BesideKronecker.{form-exactly, other-exactly, beside-either, wrong-beside, wrong-read, kron-wrong, dash-wrong}
 use Rattle.fitter.specs.declared.check.Checked.{Checked}
 use Rattle.fitter.specs.declared.check.Checked.the-variants.{Same, Differs, NotOfClass, Refused}
 use Rattle.fitter.specs.Check.{judged, judgedKind, judgedDesign, checked, PrintsTable, Answers, KroneckerAnswers, Check}
-use Rattle.fitter.proofs.Refusals.{refused-same, refused-not, refused-differs, not-refused, accepted-sized, reading-refused, first-exactly, refused-numbers}
+use Rattle.fitter.proofs.Refusals.{refused-same, refused-not, refused-differs, not-refused, accepted-sized, answer-is, reading-refused, first-exactly, refused-numbers}
 use Rattle.fitter.proofs.Unlike.{unlike-refused, second-line-refused}
 use Rattle.fitter.proofs.Outcomes.{not-to, not-from, same-to, same-from, differs-to, differs-from}
 
@@ -148,6 +149,28 @@ module _ (text s : List ℕ) (d : Design) (table : List ℕ) (accepted : tables.
   pub dash-listing-refused : shownField s ≡ bytes "-" → checked (tables.reading text) s ≡ Refused 11 1
   dash-listing-refused k = wrong-refused (dash-wrong s k)
 
+-- ---- a listing is refused exactly as document 02 says
+
+module _ (text s : List ℕ) (z : Sizes) (table : List ℕ) (accepted : tables.reading text ≡ tables.given (mixedDesign z) table) where
+  refusal-told : (number l : ℕ) → ListingRefusal z s number l → checked (tables.reading text) s ≡ Refused number l
+  refusal-told number l (first none) = first-exactly text s _ refl z table accepted .1 none
+  refusal-told number l (unlike g none) = unlike-refused text s z table accepted g none
+  refusal-told number l (second g same none) = second-line-refused text s z table accepted g same none
+  refusal-told number l (later g bad) = reading-refused text s z table accepted _ _ (next-refused z s (accepted-sized text z table accepted) g bad)
+  refusal-told number l (followed g b more h) = reading-refused text s z table accepted _ _ (follow-refused z s (accepted-sized text z table accepted) g b more h)
+  refusal-told number l (counts g other) = reading-refused text s z table accepted _ _ (counts-refused z s (accepted-sized text z table accepted) g other)
+
+  told-refusal : (number l : ℕ) → checked (tables.reading text) s ≡ Refused number l → ListingRefusal z s number l
+  told-refusal number l e = go (listing-decided z s (accepted-sized text z table accepted)) where
+    go : Passes z s ⊎ ((x : ℕ) × (y : ℕ) × ListingRefusal z s x y) → ListingRefusal z s number l
+    go (inl passes) =
+        absurd (answers-words z table s (accepted-sized text z table accepted) _ (answer-is text s z table accepted) .refusal .1 passes number l e)
+    go (inr x) =
+        let told : Refused (x .0) (x .1) ≡ Refused number l = sym (refusal-told (x .0) (x .1) (x .2)) ∙ e in
+        let same : x .0 ≡ number = cc in
+        let line : x .1 ≡ l = cc in
+        subst (λ (a : ℕ). ListingRefusal z s a l) same (subst (λ (b : ℕ). ListingRefusal z s (x .0) b) line (x .2))
+
 -- ---- every pair of byte strings
 
 pub check-words : (text s : List ℕ) (r : Checked) → r ≡ checked (tables.reading text) s → Check text s r
@@ -163,12 +186,7 @@ check-words text s r e =
       first = λ z table g. first-exactly text s r e z table g;
       kron = λ d table g k. e ∙ kron-listing-refused text s d table g k;
       numbers = λ z table g. refused-numbers text s r e z table g;
-      unlike = λ z table g l none. e ∙ unlike-refused text s z table g l none;
-      second = λ z table g l same none. e ∙ second-line-refused text s z table g l same none;
-      later = λ z table g l bad. e ∙ reading-refused text s z table g 11 (lineAfter (l .before)) (next-refused z s (accepted-sized text z table g) l bad);
-      followed = λ z table g l b more h.
-          e ∙ reading-refused text s z table g 11 (lineAfter (l .before ++ endLine)) (follow-refused z s (accepted-sized text z table g) l b more h);
-      counts = λ z table g l unlike. e ∙ reading-refused text s z table g 12 1 (counts-refused z s (accepted-sized text z table g) l unlike);
+      refused = λ z table g number l. ((λ h. told-refusal text s z table g number l (sym e ∙ h)), (λ h. e ∙ refusal-told text s z table g number l h));
       kronecker = λ d table g k.
           kronecker-words s r (e ∙ ap (λ (x : tables.Reading). checked x s) g ∙ ap (λ (x : Kind). judgedKind (d .family) (d .n) (d .m) x table s) k);
     }

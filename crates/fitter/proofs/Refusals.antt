@@ -62,7 +62,7 @@ module _ (text : List ℕ) (z : Sizes) (table : List ℕ) (accepted : tables.rea
   accepted-sized = mixed-sized (mixedDesign z) (z .class) (z .k) refl (reading-accepted text (mixedDesign z) table accepted .sized)
 
 module _ (text s : List ℕ) (z : Sizes) (table : List ℕ) (accepted : tables.reading text ≡ tables.given (mixedDesign z) table) where
-  answer-is : checked (tables.reading text) s ≡ judged z table (listingReading z s)
+  pub answer-is : checked (tables.reading text) s ≡ judged z table (listingReading z s)
   unfolding checked judgedDesign
   answer-is = ap (λ (x : tables.Reading). checked x s) accepted
 

@@ -5,7 +5,7 @@
 -- field, "the listing repeats that field, and the fitter judges by it". W-208: "the check resolves a dash like the compiler": both go by what the table text
 -- means.
 use mathlib.Core.Bool.{cond}
-use mathlib.Core.List.{List, _∷_, _++_}
+use mathlib.Core.List.{List}
 use mathlib.Core.Logic.{_⊎_, _↔_}
 use mathlib.Core.Path.{_≡_}
 use Prim.Native.Nat.{ℕ, _+_, _^_, _<_, _≤_}
@@ -19,16 +19,14 @@ use Rattle.expansions.specs.Members.{InClass, Gives}
 use Rattle.listings.specs.Listing.{printedCubes}
 use Rattle.listings.specs.Meaning.{listingValue, listingCubes, statedMixed, statedFixed}
 use Rattle.membership.specs.Class.{ofClass}
-use Rattle.lines.specs.FirstBad.{lineAfter, endLine}
 use Rattle.table_texts.specs.declared.sizes.Sizes.{Sizes}
 use Rattle.table_texts.specs.declared.sizes.Design.{Design}
 use Rattle.table_texts.specs.Design.{mixedDesign}
 use Rattle.table_texts.specs.Refusals.{TextRefusals}
 use Rattle.table_texts.specs.Read as tables
 use Rattle.listing_texts.specs.Form.{FormListing, KronListing}
-use Rattle.listing_texts.specs.Inv.{NoInv}
 use Rattle.listing_texts.specs.Listings.{termListing, Passes}
-use Rattle.listing_texts.specs.FirstLines.{FirstLines, BadNext, CountsUnlike}
+use Rattle.listing_texts.specs.Refusals.{ListingRefusal}
 use Rattle.shown_rows.specs.Rows.{coefficientIn, complementedIn}
 use Rattle.listing_texts.specs.Read.{ListingReading, shown, refused, listingReading, besideKronecker}
 use Rattle.fitter.specs.Differences.{invertedValue, firstDifference}
@@ -126,22 +124,7 @@ pub record Check (text s : List ℕ) (r : Checked) : Type 0 where
   -- "is 11 with its line in the listing", "is 12 with line 1": a listing is refused by no other number
   pub numbers : (z : Sizes) (table : List ℕ) → tables.reading text ≡ tables.given (mixedDesign z) table → (number line : ℕ) → r ≡ Refused number line
       → ((number ≡ 11) × (1 ≤ line) × (line ≤ 1 + length s)) ⊎ ((number ≡ 12) × (line ≡ 1))
-  -- "n, m or k unlike the table's is 12 with line 1, before any later line is read"; "a listing of the other family than its table is 12, line 1"; W-207:
-  -- "`f` with a digit above 2 or above n is .. in a listing 12", and so is an `f` field beside a digit: whatever the later lines are
-  pub unlike : (z : Sizes) (table : List ℕ) → tables.reading text ≡ tables.given (mixedDesign z) table → (l : FormListing s) → (l .form .sizes ≡ z → ⊥)
-      → r ≡ Refused 12 1
-  -- W-205: "a second line, `inv` and m characters"; W-201: "A broken listing line .. is 11 with its line in the listing": where the first line passes and
-  -- the second is broken or is not there, whatever the later lines are
-  pub second : (z : Sizes) (table : List ℕ) → tables.reading text ≡ tables.given (mixedDesign z) table → (l : FormListing s) → l .form .sizes ≡ z
-      → NoInv (z .m) (l .rest) → r ≡ Refused 11 2
-  -- "A broken listing line, or a term whose t is not above the one before, is 11 with its line in the listing": where the lines before it pass, whatever
-  -- follows it
-  pub later : (z : Sizes) (table : List ℕ) → tables.reading text ≡ tables.given (mixedDesign z) table → (l : FirstLines z s) → BadNext z s l
-      → r ≡ Refused 11 (lineAfter (l .before))
-  -- "and so is an end that refusal 6 would catch in a table text": a byte after the `end` line, with the line that it begins
-  pub followed : (z : Sizes) (table : List ℕ) → tables.reading text ≡ tables.given (mixedDesign z) table → (l : FirstLines z s) → (b : ℕ) (more : List ℕ)
-      → l .rest ≡ endLine ++ b ∷ more → r ≡ Refused 11 (lineAfter (l .before ++ endLine))
-  -- "counts unlike the lines are 12 with line 1", after every line has passed
-  pub counts : (z : Sizes) (table : List ℕ) → tables.reading text ≡ tables.given (mixedDesign z) table → (l : FirstLines z s) → CountsUnlike z s l
-      → r ≡ Refused 12 1
+  -- a listing is refused exactly where document 02 refuses it, by that number and with that line
+  pub refused : (z : Sizes) (table : List ℕ) → tables.reading text ≡ tables.given (mixedDesign z) table → (number line : ℕ)
+      → (r ≡ Refused number line) ↔ ListingRefusal z s number line
   pub kronecker : (d : Design) (table : List ℕ) → tables.reading text ≡ tables.given d table → d .kind ≡ Kronecker → KroneckerAnswers s r

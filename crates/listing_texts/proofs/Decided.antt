@@ -17,7 +17,7 @@ use Rattle.listings.proofs.Joined.{parts-lines}
 use Rattle.listings.proofs.Meaning.{plain-outputs, plain-inv}
 use Rattle.fields.specs.declared.values.Number.{Number}
 use Rattle.fields.specs.declared.values.Number.the-variants.{Is, Wrong}
-use Rattle.lines.specs.FirstBad.{endLine}
+use Rattle.lines.specs.FirstBad.{lineAfter, endLine}
 use Rattle.lines.proofs.FirstBad.{first-whole}
 use Rattle.lines.proofs.TermsDecided.{TermsFollow, TermsDecided, terms-decided}
 use Rattle.table_texts.specs.declared.sizes.Sizes.{Sizes}
@@ -25,20 +25,16 @@ use Rattle.listing_texts.specs.Form.{statedFields, FormListing}
 use Rattle.listing_texts.specs.Inv.{invSaid, NoInv}
 use Rattle.listing_texts.specs.Read.{alike, besideKronecker}
 use Rattle.listing_texts.specs.Listings.{termListing, Passes}
-use Rattle.listing_texts.specs.FirstLines.{FirstLines, BadNext, CountsUnlike}
+use Rattle.listing_texts.specs.FirstLines.{FirstLines}
+use Rattle.listing_texts.specs.Refusals.{ListingRefusal, first, unlike, second, later, followed, counts}
 use Rattle.listing_texts.proofs.Compared.{alike-sizes, alike-self}
 use Rattle.listing_texts.proofs.InvRead.{inv-said, inv-read}
 use Rattle.listing_texts.proofs.Opened.{split-joined}
 use Rattle.listing_texts.proofs.BesideKronecker.{form-exactly, other-exactly, beside-either}
 
-pub data ListingDecided (z : Sizes) (s : List ℕ) : Type 0 where
-  passes : Passes z s → ListingDecided z s
-  first : (FormListing s → ⊥) → ListingDecided z s
-  unlike : (l : FormListing s) → (l .form .sizes ≡ z → ⊥) → ListingDecided z s
-  second : (l : FormListing s) → l .form .sizes ≡ z → NoInv (z .m) (l .rest) → ListingDecided z s
-  later : (g : FirstLines z s) → BadNext z s g → ListingDecided z s
-  followed : (g : FirstLines z s) (b : ℕ) (more : List ℕ) → g .rest ≡ endLine ++ b ∷ more → ListingDecided z s
-  counts : (g : FirstLines z s) → CountsUnlike z s g → ListingDecided z s
+-- a listing passes, or is refused
+abbrev ListingDecided : Sizes → List ℕ → Type 0
+ListingDecided z s = Passes z s ⊎ ((number : ℕ) × (line : ℕ) × ListingRefusal z s number line)
 
 -- ---- the second line
 
@@ -90,9 +86,9 @@ module _ (z : Sizes) (s : List ℕ) (sized : Sized (z .n) (z .m) (mostMixed (z .
   counted : (g : FirstLines z s) → g .rest ≡ endLine → ListingDecided z s
   counted g e = go (ℕ-discrete (g .form .products) (products (z .n) (g .coefficient))) (ℕ-discrete (g .form .literals) (literals (z .n) (g .coefficient))) where
     go : Dec (g .form .products ≡ products (z .n) (g .coefficient)) → Dec (g .form .literals ≡ literals (z .n) (g .coefficient)) → ListingDecided z s
-    go (yes p) (yes l) = passes (all-pass g e p l)
-    go (no p) d = counts g (e, λ h. p (h .0))
-    go (yes p) (no l) = counts g (e, λ h. l (h .1))
+    go (yes p) (yes l) = inl (all-pass g e p l)
+    go (no p) d = inr (12, 1, counts g (e, λ h. p (h .0)))
+    go (yes p) (no l) = inr (12, 1, counts g (e, λ h. l (h .1)))
 
   from-third : (l : FormListing s) → l .form .sizes ≡ z → (v : ℕ) (rest : List ℕ) → v < 2 ^ z .m → l .rest ≡ invLine (z .m) v ++ rest → TermsDecided (z .n) (z .m) rest
       → ListingDecided z s
@@ -124,8 +120,8 @@ module _ (z : Sizes) (s : List ℕ) (sized : Sized (z .n) (z .m) (mostMixed (z .
 
     go : TermsFollow (z .n) (z .m) (c .coefficient) (c .rest) → ListingDecided z s
     go (TermsFollow.ends f) = counted g f
-    go (TermsFollow.bad none unended) = later g (none, unended)
-    go (TermsFollow.continues b more f) = followed g b more f
+    go (TermsFollow.bad none unended) = inr (11, lineAfter (g .before), later g (none, unended))
+    go (TermsFollow.continues b more f) = inr (11, lineAfter (g .before ++ endLine), followed g b more f)
 
   -- ---- the first line
 
@@ -136,11 +132,11 @@ module _ (z : Sizes) (s : List ℕ) (sized : Sized (z .n) (z .m) (mostMixed (z .
 
     go : ((v : ℕ) × (rest : List ℕ) × (v < 2 ^ z .m) × (l .rest ≡ invLine (z .m) v ++ rest)) ⊎ NoInv (z .m) (l .rest) → ListingDecided z s
     go (inl x) = from-third l same (x .0) (x .1) (x .2) (x .3) (terms-decided (z .n) (z .m) (sized .inputs .1) (sized .outputs .1) (x .1))
-    go (inr none) = second l same none
-  by-form l false a = unlike l (λ e. false≢true (sym a ∙ ap (alike z) e ∙ alike-self z sized))
+    go (inr none) = inr (11, 2, second l same none)
+  by-form l false a = inr (12, 1, unlike l (λ e. false≢true (sym a ∙ ap (alike z) e ∙ alike-self z sized)))
 
-  pub listing-decided : ListingDecided z s
+  pub listing-decided : Passes z s ⊎ ((number : ℕ) × (line : ℕ) × ListingRefusal z s number line)
   listing-decided = go (beside-either s) where
     go : (besideKronecker s ≡ 11) ⊎ (besideKronecker s ≡ 12) → ListingDecided z s
-    go (inl e) = first (other-exactly s .0 e)
+    go (inl e) = inr (11, 1, first (other-exactly s .0 e))
     go (inr e) = let l = form-exactly s .0 e in by-form l (alike z (l .form .sizes)) refl

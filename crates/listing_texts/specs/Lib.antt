@@ -5,4 +5,5 @@ pub mod Record
 pub mod ReadBack
 pub mod Listings
 pub mod FirstLines
+pub mod Refusals
 pub mod inner
