@@ -1,5 +1,6 @@
 -- A line from its fields: a line that passes for a word and so many fields is the word and these fields, each after a tab (`headed-read`). A line
--- says a family exactly where its word is that of the family (`family-said`, `family-read`).
+-- says a family exactly where its word is that of the family (`family-said`, `family-read`). Where the family, n and m are had from a first line, each
+-- field says its own (`heading-fields`).
 use mathlib.Core.Bool.{Bool, true, false, cond}
 use mathlib.Core.List.{List, [], _∷_, _++_}
 use mathlib.Core.Path.{_≡_, refl, sym, ap, ap₂, _∙_}
@@ -16,8 +17,12 @@ use Rattle.listings.specs.Listing.{tabbed}
 use Rattle.listings.proofs.Parts.{separated, parts-joined}
 use Rattle.listings.proofs.Joined.{Plain, AllPlain, parts-fields}
 use Rattle.listings.proofs.Words.{same-equal, same-self}
+use Rattle.fields.specs.declared.words.FamilyRead.{FamilyRead}
 use Rattle.fields.specs.declared.words.FamilyRead.the-variants.{Is, Wrong}
-use Rattle.fields.specs.Fields.{headed, familyOf}
+use Rattle.fields.specs.declared.values.Number.{Number}
+use Rattle.fields.specs.declared.values.Number.the-variants as number
+use Rattle.fields.specs.declared.heading.Heading.the-variants as heading
+use Rattle.fields.specs.Fields.{headed, familyOf, headingSaid}
 
 tabbed-separated : (fs : List (List ℕ)) → tabbed fs ≡ separated 9 fs
 unfolding tabbed separated
@@ -81,3 +86,15 @@ module _ (word : Family → List ℕ) where
   unfolding familyOf headed fields
   family-said plain other One fs p = rw (parts-fields (word One) fs (plain One) p, eq-eqb (suc (length fs)) _ refl, same-self (word One))
   family-said plain other Two fs p = rw (parts-fields (word Two) fs (plain Two) p, eq-eqb (suc (length fs)) _ refl, other, same-self (word Two))
+
+-- ---- what stands before the field k
+
+wrong-heading : {F : Family} {a b : ℕ} → heading.Wrong ≡ heading.Is F a b → ⊥
+wrong-heading e = let z : _≡_ {A = ℕ} 0 1 = cc in omega arith
+
+pub heading-fields : (x : FamilyRead) (n m : Number) (F : Family) (a b : ℕ) → headingSaid x n m ≡ heading.Is F a b
+    → (x ≡ Is F) × (n ≡ number.Is a) × (m ≡ number.Is b)
+heading-fields (Is G) (number.Is p) (number.Is q) F a b e = (cc, cc, cc)
+heading-fields (Is G) (number.Is p) number.Wrong F a b e = absurd (wrong-heading e)
+heading-fields (Is G) number.Wrong m F a b e = absurd (wrong-heading e)
+heading-fields Wrong n m F a b e = absurd (wrong-heading e)

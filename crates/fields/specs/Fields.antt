@@ -11,6 +11,8 @@ use Rattle.expansions.specs.declared.families.Family.{Family}
 use Rattle.expansions.specs.declared.families.Family.the-variants.{One, Two}
 use Rattle.fields.specs.declared.words.FamilyRead.{FamilyRead}
 use Rattle.fields.specs.declared.words.FamilyRead.the-variants as family
+use Rattle.fields.specs.declared.heading.Heading.{Heading}
+use Rattle.fields.specs.declared.heading.Heading.the-variants as heading
 use Rattle.fields.specs.declared.values.Number.{Number}
 use Rattle.fields.specs.declared.values.Number.the-variants.{Is, Wrong}
 use Rattle.fields.specs.declared.values.MixedRead.{MixedRead}
@@ -35,6 +37,15 @@ familyOf count one two l = cond (headed count one l) (family.Is One) (cond (head
 abbrev pub familyThen : {A : Type 0} → FamilyRead → A → (Family → A) → A
 familyThen (family.Is x) other f = f x
 familyThen family.Wrong other f = other
+
+-- of "`table`, n, m, k" and "`form`, n, m, k (a digit), M, i, products, literals" what stands before k: the family by the word, n and m, where each is read
+abbrev pub headingSaid : FamilyRead → Number → Number → Heading
+headingSaid x n m = familyThen x heading.Wrong (λ F. andThen n heading.Wrong (λ n. andThen m heading.Wrong (λ m. heading.Is F n m)))
+
+-- what follows a family, an n and an m that are read, and what else is said where none are
+abbrev pub headingThen : {A : Type 0} → Heading → A → (Family → ℕ → ℕ → A) → A
+headingThen (heading.Is F n m) other f = f F n m
+headingThen heading.Wrong other f = other
 
 -- a digit's value, below a base: the digits are the bytes from `0` (byte 48) on
 unfoldable pub digit : ℕ → ℕ → Number

@@ -2,5 +2,6 @@
 // is a digit, a k, a number, outputs, a mask or a cube. The first word of a first line says the family. The main property: a field is taken exactly where
 // it is one written for what it says (proofs/FieldsRead, proofs/Cubes).
 pub mod cursor;
+pub mod heading;
 pub mod values;
 pub mod words;

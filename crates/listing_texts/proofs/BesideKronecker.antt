@@ -19,12 +19,10 @@ use Rattle.listings.proofs.Joined.{parts-lines}
 use Rattle.listings.proofs.Lengths.{digitsOf-le, length-formWord, length-formLine, length-formFields}
 use Rattle.listings.proofs.Meaning.{plain-form}
 use Rattle.listings.proofs.Parts.{separated, parts-joined}
-use Rattle.fields.specs.declared.words.FamilyRead.{FamilyRead}
-use Rattle.fields.specs.declared.words.FamilyRead.the-variants as family
-use Rattle.fields.specs.declared.values.Number.{Number}
-use Rattle.fields.specs.declared.values.Number.the-variants as number
+use Rattle.fields.specs.declared.heading.Heading.{Heading}
+use Rattle.fields.specs.declared.heading.Heading.the-variants as heading
 use Rattle.fields.specs.declared.values.MixedRead.the-variants as mixed
-use Rattle.fields.specs.Fields.{headed, familyOf, familyThen, digit, oneDigit, number, mixedSaid}
+use Rattle.fields.specs.Fields.{headed, familyOf, headingSaid, digit, oneDigit, number, mixedSaid}
 use Rattle.table_texts.specs.declared.sizes.Sizes.{Sizes}
 use Rattle.listing_texts.specs.declared.form.SizesRead.the-variants as sizes
 use Rattle.listing_texts.specs.declared.form.Form.{Form}
@@ -168,14 +166,9 @@ kron-wrong s e = let l : List ℕ = parts 10 s .first in rw (kron-headed l One e
 
 -- nor has one a `-` for k, which says no class
 
-no-class : (family : Family) (n m : Number) → sizesOf family n m mixed.Wrong ≡ sizes.Wrong
-no-class family (number.Is n) (number.Is m) = refl
-no-class family (number.Is n) number.Wrong = refl
-no-class family number.Wrong m = refl
-
-no-family : (x : FamilyRead) → familyThen x Wrong (λ _. Wrong) ≡ Wrong
-no-family (family.Is x) = refl
-no-family family.Wrong = refl
+no-class : (h : Heading) → sizesOf h mixed.Wrong ≡ sizes.Wrong
+no-class (heading.Is F n m) = refl
+no-class heading.Wrong = refl
 
 dash-no-class : mixedSaid (bytes "-") ≡ mixed.Wrong
 unfolding mixedSaid oneDigit digit bytes
@@ -185,6 +178,6 @@ pub dash-wrong : (s : List ℕ) → shownField s ≡ bytes "-" → firstLine (pa
 unfolding firstLine
 dash-wrong s e =
     let l : List ℕ = parts 10 s .first in
-    let none : (family : Family) → sizesOf family (number 4 (field 1 l)) (number 4 (field 2 l)) (mixedSaid (field 3 l)) ≡ sizes.Wrong =
-    λ family. ap (sizesOf family (number 4 (field 1 l)) (number 4 (field 2 l))) (ap mixedSaid e ∙ dash-no-class) ∙ no-class family (number 4 (field 1 l)) (number 4 (field 2 l)) in
-    simp none (no-family (familyOf 8 (formWord One) (formWord Two) l))
+    let h : Heading = headingSaid (familyOf 8 (formWord One) (formWord Two) l) (number 4 (field 1 l)) (number 4 (field 2 l)) in
+    let none : sizesOf h (mixedSaid (field 3 l)) ≡ sizes.Wrong = ap (sizesOf h) (ap mixedSaid e ∙ dash-no-class) ∙ no-class h in
+    rw none

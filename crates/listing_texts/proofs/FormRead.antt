@@ -2,7 +2,7 @@
 -- one that is written for them (`form-read`).
 use mathlib.Core.Bool.{false}
 use mathlib.Core.List.{List, _++_}
-use mathlib.Core.Path.{_≡_, refl, ap, ap₂, _∙_}
+use mathlib.Core.Path.{_≡_, refl, ap, _∙_}
 use Prim.Native.Nat.{ℕ}
 use native.Mathlib.Omega.{arith}
 use lib.Dec.{lit≤}
@@ -14,15 +14,16 @@ use Rattle.listings.proofs.Joined.{AllPlain, parts-fields}
 use Rattle.listings.proofs.Forms.{plain-fields}
 use Rattle.listings.proofs.Meaning.{plain-form}
 use Rattle.fields.specs.declared.words.FamilyRead.{FamilyRead}
-use Rattle.fields.specs.declared.words.FamilyRead.the-variants as family
+use Rattle.fields.specs.declared.heading.Heading.{Heading}
+use Rattle.fields.specs.declared.heading.Heading.the-variants as heading
 use Rattle.fields.specs.declared.values.Number.{Number}
 use Rattle.fields.specs.declared.values.Number.the-variants as number
 use Rattle.fields.specs.declared.values.MixedRead.{MixedRead}
 use Rattle.fields.specs.declared.values.MixedRead.the-variants as mixed
-use Rattle.fields.specs.Fields.{number, mixedSaid, familyOf, familyThen}
+use Rattle.fields.specs.Fields.{number, familyOf, headingSaid}
 use Rattle.fields.proofs.Written.{number-decimal, mixed-said}
 use Rattle.fields.proofs.FieldsRead.{number-read, mixed-read}
-use Rattle.fields.proofs.Headed.{list-each, family-said, family-read}
+use Rattle.fields.proofs.Headed.{list-each, family-said, family-read, heading-fields}
 use Rattle.table_texts.specs.declared.sizes.Sizes.{Sizes}
 use Rattle.listing_texts.specs.declared.form.Form.{Form}
 use Rattle.listing_texts.specs.declared.form.FirstLine.the-variants.{States, Wrong}
@@ -64,24 +65,19 @@ wrong-sizes : {z : Sizes} → sizes.Wrong ≡ sizes.Are z → ⊥
 wrong-sizes e = let z : _≡_ {A = ℕ} 0 1 = cc in omega arith
 
 -- what the fields of the sizes say
-record SizesSaid (family : Family) (n m : Number) (k : MixedRead) (z : Sizes) : Type 0 where
-  family-said : family ≡ z .family
-  n-said : n ≡ number.Is (z .n)
-  m-said : m ≡ number.Is (z .m)
+record SizesSaid (h : Heading) (k : MixedRead) (z : Sizes) : Type 0 where
+  heading-said : h ≡ heading.Is (z .family) (z .n) (z .m)
   k-said : k ≡ mixed.Is (z .class) (z .k)
 
-sizes-fields : (family : Family) (n m : Number) (k : MixedRead) (z : Sizes) → sizesOf family n m k ≡ sizes.Are z → SizesSaid family n m k z
-sizes-fields family (number.Is n) (number.Is m) (mixed.Is C k) z e =
-    let same : record { n = n; m = m; class = C; k = k; family = family } ≡ z = cc in
+sizes-fields : (h : Heading) (k : MixedRead) (z : Sizes) → sizesOf h k ≡ sizes.Are z → SizesSaid h k z
+sizes-fields (heading.Is F n m) (mixed.Is C k) z e =
+    let same : record { n = n; m = m; class = C; k = k; family = F } ≡ z = cc in
     record {
-      family-said = ap (λ (y : Sizes). y .family) same;
-      n-said = ap (λ (y : Sizes). number.Is (y .n)) same;
-      m-said = ap (λ (y : Sizes). number.Is (y .m)) same;
+      heading-said = ap (λ (y : Sizes). heading.Is (y .family) (y .n) (y .m)) same;
       k-said = ap (λ (y : Sizes). mixed.Is (y .class) (y .k)) same;
     }
-sizes-fields family (number.Is n) (number.Is m) mixed.Wrong z e = absurd (wrong-sizes e)
-sizes-fields family (number.Is n) number.Wrong k z e = absurd (wrong-sizes e)
-sizes-fields family number.Wrong m k z e = absurd (wrong-sizes e)
+sizes-fields (heading.Is F n m) mixed.Wrong z e = absurd (wrong-sizes e)
+sizes-fields heading.Wrong k z e = absurd (wrong-sizes e)
 
 -- what the other fields say
 record Said (z : SizesRead) (M i p l : Number) (f : Form) : Type 0 where
@@ -110,28 +106,21 @@ form-fields sizes.Wrong M i p l f e = absurd (wrong-states e)
 pub form-read : (l : List ℕ) (f : Form) → firstLine l ≡ States f
     → (l ≡ formWord (f .sizes .family) ++ tabbed (statedFields f)) × Digits f
 unfolding firstLine fields
-form-read l f e = go (familyOf 8 (formWord One) (formWord Two) l) refl e where
-  go : (x : FamilyRead) → familyOf 8 (formWord One) (formWord Two) l ≡ x
-      → familyThen x Wrong
-      (λ y.
-      formOf (sizesOf y (number 4 (field 1 l)) (number 4 (field 2 l)) (mixedSaid (field 3 l))) (number 4 (field 4 l)) (number 4 (field 5 l))
-      (number 4 (field 6 l)) (number 4 (field 7 l)))
-      ≡ States f
-      → (l ≡ formWord (f .sizes .family) ++ tabbed (statedFields f)) × Digits f
-  go family.Wrong h g = absurd (wrong-states g)
-  go (family.Is y) h g =
-      let shape = family-read formWord 7 l y h in
-      let said = form-fields _ _ _ _ _ f g in
-      let sizes = sizes-fields y _ _ _ (f .sizes) (said .sizes-said) in
-      let n = number-read 4 (field 1 l) _ (lit≤ tt) (sizes .n-said) in
-      let m = number-read 4 (field 2 l) _ (lit≤ tt) (sizes .m-said) in
-      let k = mixed-read (field 3 l) _ _ (sizes .k-said) in
-      let M = number-read 4 (field 4 l) _ (lit≤ tt) (said .mixed-said) in
-      let i = number-read 4 (field 5 l) _ (lit≤ tt) (said .fixed-said) in
-      let p = number-read 4 (field 6 l) _ (lit≤ tt) (said .products-said) in
-      let c = number-read 4 (field 7 l) _ (lit≤ tt) (said .literals-said) in
-      let stated : parts 9 l .others ≡ statedFields f =
-      list-each (parts 9 l .others) 7 (shape .1) ∙ cc (n .0, m .0, k .0, M .0, i .0, p .0, c .0) in (
-        shape .0 ∙ ap₂ (λ (y : Family) (fs : List (List ℕ)). formWord y ++ tabbed fs) (sizes .family-said) stated,
-        record { n = n .1; m = m .1; k = k .1; mixed = M .1; fixed = i .1; products = p .1; literals = c .1 },
-      )
+form-read l f e =
+    let x : FamilyRead = familyOf 8 (formWord One) (formWord Two) l in
+    let said = form-fields _ _ _ _ _ f e in
+    let sizes = sizes-fields (headingSaid x (number 4 (field 1 l)) (number 4 (field 2 l))) _ (f .sizes) (said .sizes-said) in
+    let head = heading-fields x (number 4 (field 1 l)) (number 4 (field 2 l)) _ _ _ (sizes .heading-said) in
+    let shape = family-read formWord 7 l (f .sizes .family) (head .0) in
+    let n = number-read 4 (field 1 l) _ (lit≤ tt) (head .1) in
+    let m = number-read 4 (field 2 l) _ (lit≤ tt) (head .2) in
+    let k = mixed-read (field 3 l) _ _ (sizes .k-said) in
+    let M = number-read 4 (field 4 l) _ (lit≤ tt) (said .mixed-said) in
+    let i = number-read 4 (field 5 l) _ (lit≤ tt) (said .fixed-said) in
+    let p = number-read 4 (field 6 l) _ (lit≤ tt) (said .products-said) in
+    let c = number-read 4 (field 7 l) _ (lit≤ tt) (said .literals-said) in
+    let stated : parts 9 l .others ≡ statedFields f =
+    list-each (parts 9 l .others) 7 (shape .1) ∙ cc (n .0, m .0, k .0, M .0, i .0, p .0, c .0) in (
+      shape .0 ∙ ap (λ (fs : List (List ℕ)). formWord (f .sizes .family) ++ tabbed fs) stated,
+      record { n = n .1; m = m .1; k = k .1; mixed = M .1; fixed = i .1; products = p .1; literals = c .1 },
+    )

@@ -3,13 +3,13 @@
 use mathlib.Core.List.{List, _++_}
 use mathlib.Core.Path.{_≡_}
 use Prim.Native.Nat.{ℕ, _<_}
-use Rattle.expansions.specs.declared.families.Family.{Family}
 use Rattle.expansions.specs.declared.families.Family.the-variants.{One, Two}
 use Rattle.listings.specs.Parts.{parts, bytes, field}
 use Rattle.listings.specs.Listing.{line, formFields, formWord}
+use Rattle.fields.specs.declared.heading.Heading.{Heading}
 use Rattle.fields.specs.declared.values.Number.{Number}
 use Rattle.fields.specs.declared.values.MixedRead.{MixedRead}
-use Rattle.fields.specs.Fields.{andThen, number, mixedSaid, mixedThen, familyOf, familyThen}
+use Rattle.fields.specs.Fields.{andThen, number, mixedSaid, mixedThen, familyOf, headingSaid, headingThen}
 use Rattle.listing_texts.specs.declared.form.SizesRead.{SizesRead}
 use Rattle.listing_texts.specs.declared.form.SizesRead.the-variants as sizes
 use Rattle.listing_texts.specs.declared.form.Form.{Form}
@@ -17,10 +17,10 @@ use Rattle.listing_texts.specs.declared.form.FirstLine.{FirstLine}
 use Rattle.listing_texts.specs.declared.form.FirstLine.the-variants.{States, Wrong}
 
 -- n, m and the class with its k, where each field says them, with the family
-abbrev pub sizesOf : Family → Number → Number → MixedRead → SizesRead
-sizesOf family n m mixed =
-    andThen n sizes.Wrong
-    (λ n. andThen m sizes.Wrong (λ m. mixedThen mixed sizes.Wrong (λ C k. sizes.Are (record { n = n; m = m; class = C; k = k; family = family }))))
+abbrev pub sizesOf : Heading → MixedRead → SizesRead
+sizesOf heading mixed =
+    headingThen heading sizes.Wrong
+    (λ family n m. mixedThen mixed sizes.Wrong (λ C k. sizes.Are (record { n = n; m = m; class = C; k = k; family = family })))
 
 -- these sizes with the other four numbers, where each field says one
 abbrev pub formOf : SizesRead → Number → Number → Number → Number → FirstLine
@@ -33,10 +33,9 @@ formOf sizes.Wrong M i p l = Wrong
 -- digits and no leading zero but `0`"
 unfoldable pub firstLine : List ℕ → FirstLine
 firstLine l =
-    familyThen (familyOf 8 (formWord One) (formWord Two) l) Wrong
-    (λ family.
-    formOf (sizesOf family (number 4 (field 1 l)) (number 4 (field 2 l)) (mixedSaid (field 3 l))) (number 4 (field 4 l)) (number 4 (field 5 l))
-    (number 4 (field 6 l)) (number 4 (field 7 l)))
+    formOf
+    (sizesOf (headingSaid (familyOf 8 (formWord One) (formWord Two) l) (number 4 (field 1 l)) (number 4 (field 2 l))) (mixedSaid (field 3 l)))
+    (number 4 (field 4 l)) (number 4 (field 5 l)) (number 4 (field 6 l)) (number 4 (field 7 l))
 
 -- ---- `form` and `form2` listings
 

@@ -1,11 +1,11 @@
 // The first line of a listing: `form` or `form2`, n, m, k, M, i, products, literals, where k is a digit or, of the free class, `f` and a digit. Whether
 // its family, its class and its numbers fit the table and the lines is judged later, since a line that breaks the grammar is refused first.
-use expansions::families::Family;
+use fields::heading::Heading;
+use fields::heading::heading_of;
 use fields::values::MixedRead;
 use fields::values::Number;
 use fields::values::mixed_of;
 use fields::values::read_number;
-use fields::words::FamilyRead;
 use fields::words::family_of;
 use fields::words::field;
 use table_texts::sizes::Sizes;
@@ -36,13 +36,10 @@ enum SizesRead {
 }
 
 // The sizes of a first line, where each field says its own, with the family.
-fn sizes_of(family: Family, n: Number, m: Number, mixed: MixedRead) -> SizesRead
-    ensures { λ r. ⌜ r ≡ sizesOf family n m mixed ⌝ }
+fn sizes_of(heading: Heading, mixed: MixedRead) -> SizesRead
+    ensures { λ r. ⌜ r ≡ sizesOf heading mixed ⌝ }
 {
-    let Number::Is(n) = n else {
-        return SizesRead::Wrong;
-    };
-    let Number::Is(m) = m else {
+    let Heading::Is { family, n, m } = heading else {
         return SizesRead::Wrong;
     };
     let MixedRead::Is { class, k } = mixed else {
@@ -102,11 +99,12 @@ fn number_in(line: &[u8], i: usize) -> Number
 pub fn first_line(line: &[u8]) -> FirstLine
     ensures { λ r. ⌜ r ≡ firstLine (now (line .entry)) ⌝ }
 {
-    let FamilyRead::Is(family) = family_of(8, b"form", b"form2", line) else {
-        return FirstLine::Wrong;
-    };
-    let k = mixed_of(field(line, 3));
-    let sizes = sizes_of(family, number_in(line, 1), number_in(line, 2), k);
+    let heading = heading_of(
+        family_of(8, b"form", b"form2", line),
+        number_in(line, 1),
+        number_in(line, 2),
+    );
+    let sizes = sizes_of(heading, mixed_of(field(line, 3)));
     form_of(
         sizes,
         number_in(line, 4),

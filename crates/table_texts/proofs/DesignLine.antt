@@ -22,15 +22,14 @@ use Rattle.listings.proofs.Meaning.{plain-decimal}
 use Rattle.listings.proofs.Forms.{plain-mixedField}
 use Rattle.listings.proofs.Words.{same-equal}
 use Rattle.fields.specs.declared.words.FamilyRead.{FamilyRead}
-use Rattle.fields.specs.declared.words.FamilyRead.the-variants as family
-use Rattle.fields.specs.declared.values.Number.{Number}
-use Rattle.fields.specs.declared.values.Number.the-variants.{Is, Wrong}
+use Rattle.fields.specs.declared.heading.Heading.{Heading}
+use Rattle.fields.specs.declared.heading.Heading.the-variants as heading
 use Rattle.fields.specs.declared.values.MixedRead.{MixedRead}
 use Rattle.fields.specs.declared.values.MixedRead.the-variants as mixed
-use Rattle.fields.specs.Fields.{digit, oneDigit, mixedSaid, familyOf, familyThen}
+use Rattle.fields.specs.Fields.{digit, oneDigit, mixedSaid, familyOf, headingSaid}
 use Rattle.fields.proofs.Written.{oneDigit-decimal, mixed-said}
 use Rattle.fields.proofs.FieldsRead.{oneDigit-read, oneDigit-lt, mixed-read}
-use Rattle.fields.proofs.Headed.{list-each, family-said, family-read}
+use Rattle.fields.proofs.Headed.{list-each, family-said, family-read, heading-fields}
 use Rattle.table_texts.specs.declared.first.KindRead.{KindRead}
 use Rattle.table_texts.specs.declared.first.KindRead.the-variants as kind
 use Rattle.table_texts.specs.declared.first.FirstLine.the-variants as first
@@ -214,34 +213,31 @@ kind-then family a b (kind.Is c) d e =
     (ap (λ (y : Design). y .n) same, ap (λ (y : Design). y .m) same, ap (λ (y : Design). kind.Is (y .kind)) same, ap (λ (y : Design). y .family) same)
 kind-then family a b kind.Wrong d e = absurd (wrong-table e)
 
-table-read : (family : Family) (x y : Number) (f : List ℕ) (d : Design) → tableLine family x y f ≡ first.Table d
-    → (x ≡ Is (d .n)) × (y ≡ Is (d .m)) × (kindOf (d .n) f ≡ kind.Is (d .kind)) × (family ≡ d .family)
-table-read family (Is a) (Is b) f d e =
-    let said = kind-then family a b (kindOf a f) d e in
-    (ap Is (said .0), ap Is (said .1), ap (λ (y : ℕ). kindOf y f) (sym (said .0)) ∙ said .2, said .3)
-table-read family (Is a) Wrong f d e = absurd (wrong-table e)
-table-read family Wrong y f d e = absurd (wrong-table e)
+table-read : (h : Heading) (f : List ℕ) (d : Design) → tableLine h f ≡ first.Table d
+    → (h ≡ heading.Is (d .family) (d .n) (d .m)) × (kindOf (d .n) f ≡ kind.Is (d .kind))
+table-read (heading.Is F a b) f d e =
+    let said = kind-then F a b (kindOf a f) d e in
+    (cc (said .0, said .1, said .3), ap (λ (y : ℕ). kindOf y f) (sym (said .0)) ∙ said .2)
+table-read heading.Wrong f d e = absurd (wrong-table e)
 
 pub design-read : (l : List ℕ) (d : Design) → firstLine l ≡ first.Table d → DesignRead l d
 unfolding firstLine fields
-design-read l d e = go (familyOf 4 (tableWord One) (tableWord Two) l) refl e where
-  go : (x : FamilyRead) → familyOf 4 (tableWord One) (tableWord Two) l ≡ x
-      → familyThen x first.Wrong (λ y. tableLine y (oneDigit (field 1 l)) (oneDigit (field 2 l)) (field 3 l)) ≡ first.Table d → DesignRead l d
-  go family.Wrong h g = absurd (wrong-table g)
-  go (family.Is y) h g =
-      let shape = family-read tableWord 3 l y h in
-      let said = table-read y (oneDigit (field 1 l)) (oneDigit (field 2 l)) (field 3 l) d g in
-      let three = list-each (parts 9 l .others) 3 (shape .1) in
-      record {
-        kind-field = field 3 l;
-        characters =
-            shape .0
-            ∙ ap₂ (λ (y : Family) (fs : List (List ℕ)). tableWord y ++ tabbed fs) (said .3)
-            (three
-            ∙ ap₂ (λ (f g : List ℕ). f ∷ g ∷ field 3 l ∷ [])
-            (oneDigit-read (field 1 l) (d .n) (said .0))
-            (oneDigit-read (field 2 l) (d .m) (said .1)));
-        said = said .2;
-        n-digit = oneDigit-lt (field 1 l) (d .n) (said .0);
-        m-digit = oneDigit-lt (field 2 l) (d .m) (said .1);
-      }
+design-read l d e =
+    let x : FamilyRead = familyOf 4 (tableWord One) (tableWord Two) l in
+    let line = table-read (headingSaid x (oneDigit (field 1 l)) (oneDigit (field 2 l))) (field 3 l) d e in
+    let said = heading-fields x (oneDigit (field 1 l)) (oneDigit (field 2 l)) (d .family) (d .n) (d .m) (line .0) in
+    let shape = family-read tableWord 3 l (d .family) (said .0) in
+    let three = list-each (parts 9 l .others) 3 (shape .1) in
+    record {
+      kind-field = field 3 l;
+      characters =
+          shape .0
+          ∙ ap (λ (fs : List (List ℕ)). tableWord (d .family) ++ tabbed fs)
+          (three
+          ∙ ap₂ (λ (f g : List ℕ). f ∷ g ∷ field 3 l ∷ [])
+          (oneDigit-read (field 1 l) (d .n) (said .1))
+          (oneDigit-read (field 2 l) (d .m) (said .2)));
+      said = line .1;
+      n-digit = oneDigit-lt (field 1 l) (d .n) (said .1);
+      m-digit = oneDigit-lt (field 2 l) (d .m) (said .2);
+    }

@@ -9,9 +9,9 @@ use Rattle.expansions.specs.declared.kinds.Class.the-variants.{Free}
 use Rattle.expansions.specs.declared.kinds.Kind.{Kind}
 use Rattle.expansions.specs.declared.kinds.Kind.the-variants.{Mixed, Kronecker}
 use Rattle.listings.specs.Parts.{bytes, same, field}
-use Rattle.fields.specs.declared.values.Number.{Number}
+use Rattle.fields.specs.declared.heading.Heading.{Heading}
 use Rattle.fields.specs.declared.values.MixedRead.{MixedRead}
-use Rattle.fields.specs.Fields.{andThen, oneDigit, mixedSaid, mixedThen, familyOf, familyThen}
+use Rattle.fields.specs.Fields.{oneDigit, mixedSaid, mixedThen, familyOf, headingSaid, headingThen}
 use Rattle.table_texts.specs.declared.first.KindRead.{KindRead}
 use Rattle.table_texts.specs.declared.first.KindRead.the-variants as kind
 use Rattle.table_texts.specs.declared.first.FirstLine.{FirstLine}
@@ -35,10 +35,10 @@ abbrev pub kindThen : KindRead → (Kind → FirstLine) → FirstLine
 kindThen (kind.Is x) next = next x
 kindThen kind.Wrong next = first.Wrong
 
--- n, m and the kind of k, where each field says one, with the family; f is the field k
-abbrev pub tableLine : Family → Number → Number → List ℕ → FirstLine
-tableLine family n m f =
-    andThen n first.Wrong (λ n. andThen m first.Wrong (λ m. kindThen (kindOf n f) (λ x. first.Table (record { n = n; m = m; kind = x; family = family }))))
+-- the family, n and m with the kind of k, where each is said; f is the field k
+abbrev pub tableLine : Heading → List ℕ → FirstLine
+tableLine heading f =
+    headingThen heading first.Wrong (λ family n m. kindThen (kindOf n f) (λ x. first.Table (record { n = n; m = m; kind = x; family = family })))
 
 -- the word that a table text begins with: "`table`", and document 02, W-203: "A table that begins `table2`" is for a part of family two
 unfoldable pub tableWord : Family → List ℕ
@@ -48,5 +48,4 @@ tableWord Two = bytes "table2"
 -- "`table`, n, m, k. Each is one digit; k may be `-`", with the word of either family
 unfoldable pub firstLine : List ℕ → FirstLine
 firstLine l =
-    familyThen (familyOf 4 (tableWord One) (tableWord Two) l) first.Wrong
-    (λ family. tableLine family (oneDigit (field 1 l)) (oneDigit (field 2 l)) (field 3 l))
+    tableLine (headingSaid (familyOf 4 (tableWord One) (tableWord Two) l) (oneDigit (field 1 l)) (oneDigit (field 2 l))) (field 3 l)

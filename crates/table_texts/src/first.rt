@@ -1,14 +1,13 @@
 // What the first line of a table text says, by its fields. Whether the design is within its limits is judged later, since a line that breaks
 // the grammar is refused first.
 use crate::sizes::Design;
-use expansions::families::Family;
 use expansions::kinds::Class;
 use expansions::kinds::Kind;
+use fields::heading::Heading;
+use fields::heading::heading_of;
 use fields::values::MixedRead;
-use fields::values::Number;
 use fields::values::mixed_of;
 use fields::values::one_digit;
-use fields::words::FamilyRead;
 use fields::words::family_of;
 use fields::words::field;
 use fields::words::same;
@@ -53,14 +52,11 @@ fn kind_of(n: usize, field: &[u8]) -> KindRead
     }
 }
 
-// n, m and the kind of k, which `field` says, where each is read, with the family.
-fn table_line(family: Family, n: Number, m: Number, field: &[u8]) -> FirstLine
-    ensures { λ r. ⌜ r ≡ tableLine family n m (now (field .entry)) ⌝ }
+// The family, n and m with the kind of k, which `field` says, where each is read.
+fn table_line(heading: Heading, field: &[u8]) -> FirstLine
+    ensures { λ r. ⌜ r ≡ tableLine heading (now (field .entry)) ⌝ }
 {
-    let Number::Is(n) = n else {
-        return FirstLine::Wrong;
-    };
-    let Number::Is(m) = m else {
+    let Heading::Is { family, n, m } = heading else {
         return FirstLine::Wrong;
     };
     let KindRead::Is(kind) = kind_of(n, field) else {
@@ -73,13 +69,10 @@ fn table_line(family: Family, n: Number, m: Number, field: &[u8]) -> FirstLine
 pub fn first_line(line: &[u8]) -> FirstLine
     ensures { λ r. ⌜ r ≡ firstLine (now (line .entry)) ⌝ }
 {
-    let FamilyRead::Is(family) = family_of(4, b"table", b"table2", line) else {
-        return FirstLine::Wrong;
-    };
-    table_line(
-        family,
+    let heading = heading_of(
+        family_of(4, b"table", b"table2", line),
         one_digit(field(line, 1)),
         one_digit(field(line, 2)),
-        field(line, 3),
-    )
+    );
+    table_line(heading, field(line, 3))
 }
