@@ -16,7 +16,7 @@ use Rattle.search.specs.inner.Answer.{answerExpansion}
 use Rattle.minimise_calls.specs.declared.calls.Minimised.{Minimised}
 use Rattle.minimise_calls.specs.declared.calls.Minimised.the-variants as minimised
 use Rattle.table_texts.specs.declared.sizes.Design.{Design}
-use Rattle.table_texts.specs.Read as reading
+use Rattle.table_texts.specs.inner.Reading as reading
 use Rattle.text.specs.declared.compile.Compiled.{Compiled}
 use Rattle.text.specs.declared.compile.Compiled.the-variants as compiled
 use Rattle.fitter.specs.declared.check.Checked.{Checked}

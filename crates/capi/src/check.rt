@@ -1,9 +1,10 @@
 // The fitter's check. Its answer is four numbers: the refusal's number and its line, the outcome, and the point that differs.
 use fitter::check::Checked;
 ghost use mathlib.Core.Path.{_≡_};
-ghost use Rattle.table_texts.specs.Read.{reading};
+ghost use Rattle.table_texts.specs.inner.Reading.{reading};
 ghost use Rattle.fitter.specs.declared.check.Checked.{Checked};
-ghost use Rattle.fitter.specs.Check.{checked, Check};
+ghost use Rattle.fitter.specs.Check.{Check};
+ghost use Rattle.fitter.specs.inner.Answer.{checked};
 ghost use Rattle.capi.specs.Answers.{checkNumbers};
 
 // The numbers that stand for the check's answer.

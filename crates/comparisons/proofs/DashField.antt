@@ -21,7 +21,7 @@ use Rattle.listings.specs.Meaning.{shownField}
 use Rattle.listings.proofs.Forms.{listing-field}
 use Rattle.table_texts.specs.declared.sizes.Design.{Design}
 use Rattle.table_texts.specs.First.{dashKind}
-use Rattle.table_texts.specs.Read.{Reading, given, refused, reading}
+use Rattle.table_texts.specs.inner.Reading.{Reading, given, refused, reading}
 use Rattle.table_texts.specs.TableTexts.{kindField, dashCharacters, designLine}
 use Rattle.table_texts.proofs.Acceptance.{dashDesign, dash-written-out}
 use Rattle.table_texts.proofs.DesignLine.{kind-dash, dash-characters}

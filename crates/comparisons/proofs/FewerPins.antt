@@ -11,7 +11,7 @@ use Rattle.expansions.proofs.Outputs.{chosen-at, fewer-outputs}
 use Rattle.listings.specs.Meaning.{listingProducts, listingLiterals, IsListing}
 use Rattle.table_texts.specs.declared.sizes.Design.{Design}
 use Rattle.table_texts.specs.Accepted.{Accepted}
-use Rattle.table_texts.specs.Read.{given, reading}
+use Rattle.table_texts.specs.inner.Reading.{given, reading}
 use Rattle.table_texts.proofs.read.Accepted.{reading-accepted}
 use Rattle.text.specs.inner.Compiled.{answerListing}
 use Rattle.text.specs.Print.{Print}

@@ -31,7 +31,7 @@ use Rattle.listings.proofs.Meaning.{plain-decimal, plain-outputs, lines-line}
 use Rattle.lines.proofs.RowLines.{plain-on}
 use Rattle.table_texts.specs.declared.sizes.Design.{Design}
 use Rattle.table_texts.specs.First.{tableWord}
-use Rattle.table_texts.specs.Read.{given, reading}
+use Rattle.table_texts.specs.inner.Reading.{given, reading}
 use Rattle.table_texts.specs.TableTexts.{pointLine, pointLines, designLine, textWith}
 use Rattle.table_texts.proofs.read.Accepted.{reading-accepted}
 use Rattle.table_texts.proofs.Acceptance.{text-accepted}

@@ -15,7 +15,7 @@ use Rattle.search.specs.inner.Answer.{answerExpansion}
 use Rattle.listings.specs.Listing.{fieldsOf, listingWith, listing}
 use Rattle.listings.specs.Meaning.{IsListing}
 use Rattle.table_texts.specs.Accepted.{Accepted}
-use Rattle.table_texts.specs.Read.{given, reading}
+use Rattle.table_texts.specs.inner.Reading.{given, reading}
 use Rattle.table_texts.proofs.Acceptance.{table-text-accepted}
 use Rattle.table_texts.proofs.read.Accepted.{reading-accepted}
 use Rattle.text.specs.inner.Compiled.{answerListing}

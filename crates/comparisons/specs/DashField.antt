@@ -7,7 +7,7 @@ use lib.ListN.{take}
 use Rattle.listings.specs.Parts.{bytes}
 use Rattle.listings.specs.Meaning.{shownField}
 use Rattle.table_texts.specs.declared.sizes.Design.{Design}
-use Rattle.table_texts.specs.Read.{given, reading}
+use Rattle.table_texts.specs.inner.Reading.{given, reading}
 use Rattle.table_texts.specs.TableTexts.{dashCharacters, designLine}
 use Rattle.text.specs.declared.compile.Compiled.{Compiled}
 use Rattle.text.specs.declared.compile.Compiled.the-variants.{Written}

@@ -12,7 +12,7 @@ use Rattle.expansions.specs.Outputs.{chosenOutputs, chosenTable, FewerOutputs}
 use Rattle.listings.specs.Meaning.{statedProducts, statedLiterals}
 use Rattle.table_texts.specs.declared.sizes.Design.{Design}
 use Rattle.table_texts.specs.Accepted.{Accepted}
-use Rattle.table_texts.specs.Read.{given, reading}
+use Rattle.table_texts.specs.inner.Reading.{given, reading}
 use Rattle.text.specs.declared.compile.Compiled.the-variants.{Written}
 use Rattle.text.specs.Compile.{Compile}
 use Rattle.text.specs.Print.{Print}

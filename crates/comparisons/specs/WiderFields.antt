@@ -13,7 +13,7 @@ use Rattle.search.specs.declared.expansion.Expansion.{Expansion}
 use Rattle.search.specs.inner.Answer.{answerExpansion}
 use Rattle.listings.specs.Listing.{fieldsOf, listingWith}
 use Rattle.table_texts.specs.declared.sizes.Design.{Design}
-use Rattle.table_texts.specs.Read.{given, reading}
+use Rattle.table_texts.specs.inner.Reading.{given, reading}
 use Rattle.table_texts.specs.TableTexts.{tableText}
 use Rattle.text.specs.declared.compile.Compiled.the-variants.{Written}
 use Rattle.text.specs.Compile.{Compile}

@@ -47,7 +47,7 @@ use Rattle.lines.specs.Rows.{onRow, rowLine, unfinished, ended, laterLines}
 use Rattle.listings.specs.Kronecker.{letterByte, letterBytes, literalByte, kroneckerCube, kroneckerLine, kroneckerListing}
 use Rattle.table_texts.specs.Design.{designRefusal}
 use Rattle.table_texts.specs.First.{dashKind, kindOf, tableWord, firstLine}
-use Rattle.table_texts.specs.Read.{withDesign, judgedFirst, allLines, reading}
+use Rattle.table_texts.specs.inner.Reading.{withDesign, judgedFirst, allLines, reading}
 use Rattle.text.specs.inner.Compiled.{answerListing}
 use Rattle.text.specs.Judged.{refusedLine}
 use Rattle.text.specs.inner.Printed.{printedFor, printed}

@@ -27,7 +27,7 @@ use Rattle.listings.specs.Parts.{bytes}
 use Rattle.listings.specs.Listing.{listing}
 use Rattle.listings.specs.Kronecker.{letterBytes}
 use Rattle.listings.specs.Meaning.{listingValue, listingProducts, listingLiterals, firstNumbers}
-use Rattle.table_texts.specs.Read.{Reading, given, refused, reading}
+use Rattle.table_texts.specs.inner.Reading.{Reading, given, refused, reading}
 use Rattle.text.specs.inner.Printed.{printed}
 
 -- ---- questions

@@ -16,11 +16,10 @@ use Rattle.listings.specs.Meaning.{shownField, statedMixed, statedFixed}
 use Rattle.table_texts.specs.declared.sizes.Sizes.{Sizes}
 use Rattle.table_texts.specs.declared.sizes.Design.{Design}
 use Rattle.table_texts.specs.Design.{mixedDesign}
-use Rattle.table_texts.specs.TableTexts.{dashCharacters, designLine}
-use Rattle.table_texts.proofs.Design.{mixed-sized}
-use Rattle.table_texts.specs.Read as tables
-use Rattle.table_texts.proofs.read.Accepted.{reading-accepted}
+use Rattle.table_texts.specs.TableTexts.{dashCharacters, designLine, Means}
+use Rattle.table_texts.specs.inner.Reading as tables
 use Rattle.table_texts.proofs.Acceptance.{dash-written-out}
+use Rattle.table_texts.proofs.Exactness.{accepted-exactly}
 use Rattle.table_texts.proofs.Refusals.{text-refusals}
 use Rattle.listing_texts.specs.declared.form.Form.{Form}
 use Rattle.listing_texts.specs.declared.form.FirstLine.the-variants.{Wrong}
@@ -34,7 +33,8 @@ use Rattle.listing_texts.proofs.FirstLines.{next-refused, follow-refused, count
 use Rattle.listing_texts.proofs.BesideKronecker.{form-exactly, other-exactly, beside-either, wrong-beside, wrong-read, kron-wrong, dash-wrong}
 use Rattle.fitter.specs.declared.check.Checked.{Checked}
 use Rattle.fitter.specs.declared.check.Checked.the-variants.{Same, Differs, NotOfClass, Refused}
-use Rattle.fitter.specs.Check.{judged, judgedKind, judgedDesign, checked, PrintsTable, Answers, KroneckerAnswers, Check}
+use Rattle.fitter.specs.Check.{PrintsTable, Answers, KroneckerAnswers, Check}
+use Rattle.fitter.specs.inner.Answer.{judged, judgedKind, judgedDesign, checked}
 use Rattle.fitter.proofs.Refusals.{refused-same, refused-not, refused-differs, not-refused, accepted-sized, answer-is, reading-refused, first-exactly, refused-numbers}
 use Rattle.fitter.proofs.Unlike.{unlike-refused, second-line-refused}
 use Rattle.fitter.proofs.Outcomes.{not-to, not-from, same-to, same-from, differs-to, differs-from}
@@ -173,22 +173,29 @@ module _ (text s : List ℕ) (z : Sizes) (table : List ℕ) (accepted : tables.r
 
 -- ---- every pair of byte strings
 
+-- what an accepted text means
+reads : (text : List ℕ) (d : Design) (table : List ℕ) → Means text d table → tables.reading text ≡ tables.given d table
+reads text d table means = accepted-exactly text d table .1 means
+
 pub check-words : (text s : List ℕ) (r : Checked) → r ≡ checked (tables.reading text) s → Check text s r
 unfolding checked judgedDesign
 check-words text s r e =
     record {
       answer = e;
-      words = λ z table g.
-          let sized = mixed-sized (mixedDesign z) (z .class) (z .k) refl (reading-accepted text (mixedDesign z) table g .sized) in
-          answers-words z table s sized r (e ∙ ap (λ (x : tables.Reading). checked x s) g);
+      words = λ z table means.
+          let g = reads text (mixedDesign z) table means in
+          answers-words z table s (accepted-sized text z table g) r (e ∙ ap (λ (x : tables.Reading). checked x s) g);
       text-first = λ number line g. e ∙ ap (λ (x : tables.Reading). checked x s) g;
       text-words = text-refusals text (λ number line. r ≡ Refused number line) (λ number line g. e ∙ ap (λ (x : tables.Reading). checked x s) g);
-      first = λ z table g. first-exactly text s r e z table g;
-      kron = λ d table g k. e ∙ kron-listing-refused text s d table g k;
-      numbers = λ z table g. refused-numbers text s r e z table g;
-      refused = λ z table g number l. ((λ h. told-refusal text s z table g number l (sym e ∙ h)), (λ h. e ∙ refusal-told text s z table g number l h));
-      kronecker = λ d table g k.
-          kronecker-words s r (e ∙ ap (λ (x : tables.Reading). checked x s) g ∙ ap (λ (x : Kind). judgedKind (d .family) (d .n) (d .m) x table s) k);
+      first = λ z table means. first-exactly text s r e z table (reads text (mixedDesign z) table means);
+      kron = λ d table means k. e ∙ kron-listing-refused text s d table (reads text d table means) k;
+      numbers = λ z table means. refused-numbers text s r e z table (reads text (mixedDesign z) table means);
+      refused = λ z table means number l.
+          let g = reads text (mixedDesign z) table means in
+          ((λ h. told-refusal text s z table g number l (sym e ∙ h)), (λ h. e ∙ refusal-told text s z table g number l h));
+      kronecker = λ d table means k.
+          kronecker-words s r
+          (e ∙ ap (λ (x : tables.Reading). checked x s) (reads text d table means) ∙ ap (λ (x : Kind). judgedKind (d .family) (d .n) (d .m) x table s) k);
     }
 
 -- "the check resolves a dash like the compiler": beside any listing, a text with `-` for k has the answer of the text with what `-` means written out

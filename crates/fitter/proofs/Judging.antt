@@ -25,7 +25,7 @@ use Rattle.listing_texts.proofs.Exactness.{listing-read}
 use Rattle.fitter.specs.declared.check.Checked.the-variants.{NotOfClass, Refused}
 use Rattle.fitter.specs.declared.values.Difference.the-variants.{At, Nowhere}
 use Rattle.fitter.specs.Differences.{invertedValue, firstDifference}
-use Rattle.fitter.specs.Check.{compared, judged}
+use Rattle.fitter.specs.inner.Answer.{compared, judged}
 use Rattle.fitter.specs.inner.Differences.{differenceOf}
 use Rattle.fitter.specs.inner.Judging.{judgedRecord}
 

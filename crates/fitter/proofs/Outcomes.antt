@@ -23,7 +23,8 @@ use Rattle.listing_texts.proofs.Exactness.{ListingIs, listing-read}
 use Rattle.fitter.specs.declared.check.Checked.{Checked}
 use Rattle.fitter.specs.declared.check.Checked.the-variants.{Same, Differs, NotOfClass}
 use Rattle.fitter.specs.Differences.{invertedValue, firstDifference}
-use Rattle.fitter.specs.Check.{compared, judged, PrintsCubes, PrintsTable, LowestDifference}
+use Rattle.fitter.specs.Check.{PrintsCubes, PrintsTable, LowestDifference}
+use Rattle.fitter.specs.inner.Answer.{compared, judged}
 use Rattle.fitter.proofs.Bytes.{mixed-stated, fixed-stated, cubes-listed, value-listed, rows-shown}
 use Rattle.fitter.proofs.Differences.{difference-none, none-differ, difference-at, lowest-differs}
 

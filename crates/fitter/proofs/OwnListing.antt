@@ -17,14 +17,14 @@ use Rattle.listings.specs.Meaning.{statedMixed, statedFixed}
 use Rattle.table_texts.specs.declared.sizes.Sizes.{Sizes}
 use Rattle.table_texts.specs.Design.{mixedDesign}
 use Rattle.table_texts.proofs.Design.{mixed-sized}
-use Rattle.table_texts.specs.Read.{Reading, given, reading}
+use Rattle.table_texts.specs.inner.Reading.{Reading, given, reading}
 use Rattle.table_texts.proofs.read.Accepted.{reading-accepted}
 use Rattle.listing_texts.specs.Read.{listingReading}
 use Rattle.listing_texts.specs.ReadBack.{MemberRecord, memberListing, termPolarities}
 use Rattle.listing_texts.proofs.ReadBack.{listing-terms, answer-record}
 use Rattle.text.specs.inner.Compiled.{answerListing}
 use Rattle.fitter.specs.declared.check.Checked.the-variants.{Same}
-use Rattle.fitter.specs.Check.{judged, judgedDesign, checked}
+use Rattle.fitter.specs.inner.Answer.{judged, judgedDesign, checked}
 use Rattle.fitter.proofs.Bytes.{mixed-stated, fixed-stated}
 use Rattle.fitter.proofs.Answers.{answers-words}
 

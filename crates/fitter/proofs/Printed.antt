@@ -20,7 +20,7 @@ use Rattle.expansions.specs.declared.kinds.Kind.the-variants.{Mixed, Kronecker}
 use Rattle.table_texts.specs.declared.sizes.Sizes.{Sizes}
 use Rattle.table_texts.specs.declared.sizes.Design.{Design}
 use Rattle.table_texts.specs.Design.{mixedDesign}
-use Rattle.table_texts.specs.Read.{Reading, given, refused, reading}
+use Rattle.table_texts.specs.inner.Reading.{Reading, given, refused, reading}
 use Rattle.table_texts.proofs.Design.{mixed-design}
 use Rattle.table_texts.proofs.Length.{accepted-text-first}
 use Rattle.listing_texts.specs.Read.{besideKronecker}
@@ -28,13 +28,17 @@ use Rattle.listing_texts.proofs.BesideKronecker.{beside-either, beside-first}
 use Rattle.listing_texts.proofs.Length.{passes-first}
 use Rattle.text.specs.Judged.{judged, refusedLine}
 use Rattle.table_texts.proofs.RefusalBounds.{reading-refused}
+use Rattle.table_texts.proofs.Exactness.{accepted-exactly}
 use Rattle.text.proofs.print.Refusals.{line-says, refused-line-says, refused-line-le}
 use Rattle.writing.specs.Put.{Put}
 use Rattle.writing.proofs.Puts.{put-front}
 use Rattle.fitter.specs.declared.check.Checked.{Checked}
 use Rattle.fitter.specs.declared.check.Checked.the-variants.{Same, Differs, NotOfClass, Refused}
-use Rattle.fitter.specs.Check.{judgedKind, judgedDesign, checked, Check}
-use Rattle.fitter.specs.Print.{answerLine, printed, Print}
+use Rattle.fitter.specs.Check.{Check}
+use Rattle.fitter.specs.inner.Answer.{judgedKind, judgedDesign, checked}
+use Rattle.fitter.specs.Print.{Print}
+use Rattle.fitter.specs.AnswerLine.{answerLine}
+use Rattle.fitter.specs.inner.Printed.{printed}
 use Rattle.fitter.proofs.Refusals.{refused-differs, accepted-sized, refused-numbers}
 use Rattle.fitter.proofs.Answers.{answers-words, check-words}
 
@@ -117,6 +121,14 @@ class-printed : answerLine NotOfClass ≡ line (bytes "not of the class") []
 unfolding answerLine
 class-printed = refl
 
+point-line : (p : ℕ) → answerLine (Differs p) ≡ line (bytes "differs") (decimal p ∷ [])
+unfolding answerLine
+point-line p = refl
+
+refusal-line : (number l : ℕ) → answerLine (Refused number l) ≡ line (bytes "refused") (decimal number ∷ decimal l ∷ [])
+unfolding answerLine refusedLine
+refusal-line number l = refl
+
 -- ---- what is printed
 
 -- beside a `K` table the refusal of the first 8,192 bytes is the refusal of the listing
@@ -142,12 +154,18 @@ print-holds text listing texts listings held r count et el c put =
       filled = filled;
       within = omega (arith, ec, ap length filled, length-append (printed text listing) (replicate (18 - length (printed text listing)) 0));
       shown = shown;
-      whole = λ z table e p.
-          shown ∙ rw (accepted-text-first text (mixedDesign z) table e, passes-first z listing (accepted-sized text z table e) p);
-      whole-kronecker = λ d table e k. shown ∙ ap answerLine (first-refused text listing d table e k);
+      whole = λ z table means passes.
+          let e = accepted-exactly text (mixedDesign z) table .1 means in
+          (accepted-text-first text (mixedDesign z) table e, passes-first z listing (accepted-sized text z table e) passes);
+      whole-kronecker = λ d table means k r told.
+          shown ∙ ap answerLine (first-refused text listing d table (accepted-exactly text d table .1 means) k ∙ sym (told .answer));
       meaning = (r, shown ∙ sym line, check-words (judged text) (judged listing) r said);
       same = λ d. shown ∙ ap answerLine (sym (d .answer)) ∙ same-printed;
       not-of-class = λ d. shown ∙ ap answerLine (sym (d .answer)) ∙ class-printed;
-      refusal = λ number l d. ap firstNumbers (shown ∙ ap answerLine (sym (d .answer))) ∙ refusal-printed text listing number l (sym (d .answer));
-      point = λ p d. ap firstNumbers (shown ∙ ap answerLine (sym (d .answer))) ∙ point-printed text listing p (sym (d .answer));
+      point = λ p d.
+          let told = shown ∙ ap answerLine (sym (d .answer)) in
+          (told ∙ point-line p, ap firstNumbers told ∙ point-printed text listing p (sym (d .answer)));
+      refusal = λ number l d.
+          let told = shown ∙ ap answerLine (sym (d .answer)) in
+          (told ∙ refusal-line number l, ap firstNumbers told ∙ refusal-printed text listing number l (sym (d .answer)));
     }

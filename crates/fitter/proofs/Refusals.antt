@@ -14,7 +14,7 @@ use Rattle.expansions.specs.Least.{Best, nothing, best}
 use Rattle.membership.specs.Class.{ofClass}
 use Rattle.table_texts.specs.declared.sizes.Sizes.{Sizes}
 use Rattle.table_texts.specs.Design.{mixedDesign}
-use Rattle.table_texts.specs.Read as tables
+use Rattle.table_texts.specs.inner.Reading as tables
 use Rattle.table_texts.proofs.Design.{mixed-sized}
 use Rattle.table_texts.proofs.read.Accepted.{reading-accepted}
 use Rattle.listing_texts.specs.declared.form.Form.{Form}
@@ -26,7 +26,7 @@ use Rattle.listing_texts.proofs.FirstLines.{Told, reading-told, first-told}
 use Rattle.fitter.specs.declared.check.Checked.{Checked}
 use Rattle.fitter.specs.declared.check.Checked.the-variants.{Same, Differs, NotOfClass, Refused}
 use Rattle.fitter.specs.Differences.{invertedValue, firstDifference}
-use Rattle.fitter.specs.Check.{compared, judged, judgedDesign, checked}
+use Rattle.fitter.specs.inner.Answer.{compared, judged, judgedDesign, checked}
 
 -- ---- the four answers differ
 

@@ -6,13 +6,13 @@ use Prim.Native.Nat.{ℕ, _≤_}
 use Rattle.expansions.specs.Classes.{mostMixed}
 use Rattle.table_texts.specs.declared.sizes.Sizes.{Sizes}
 use Rattle.table_texts.specs.Design.{mixedDesign}
-use Rattle.table_texts.specs.Read as tables
+use Rattle.table_texts.specs.inner.Reading as tables
 use Rattle.listing_texts.specs.Form.{FormListing}
 use Rattle.listing_texts.proofs.Unlike.{unlike-read}
 use Rattle.listing_texts.specs.Inv.{NoInv}
 use Rattle.listing_texts.proofs.SecondLine.{second-refused}
 use Rattle.fitter.specs.declared.check.Checked.the-variants.{Refused}
-use Rattle.fitter.specs.Check.{checked}
+use Rattle.fitter.specs.inner.Answer.{checked}
 use Rattle.fitter.proofs.Refusals.{accepted-sized, reading-refused}
 
 module _ (text s : List ℕ) (z : Sizes) (table : List ℕ) (accepted : tables.reading text ≡ tables.given (mixedDesign z) table) (g : FormListing s) where

@@ -4,67 +4,28 @@
 -- both families; a listing of the other family than its table is 12, line 1." W-205: "The fitter's check reads the line and inverts." W-207: of an `f`
 -- field, "the listing repeats that field, and the fitter judges by it". W-208: "the check resolves a dash like the compiler": both go by what the table text
 -- means.
-use mathlib.Core.Bool.{cond}
 use mathlib.Core.List.{List}
 use mathlib.Core.Logic.{_⊎_, _↔_}
 use mathlib.Core.Path.{_≡_}
 use Prim.Native.Nat.{ℕ, _+_, _^_, _<_, _≤_}
 use lib.ListN.{length}
 use Rattle.numbers.specs.Bytes.{at}
-use Rattle.expansions.specs.declared.families.Family.{Family}
-use Rattle.expansions.specs.declared.kinds.Kind.{Kind}
-use Rattle.expansions.specs.declared.kinds.Kind.the-variants.{Mixed, Kronecker}
-use Rattle.expansions.specs.Least.{Best, nothing, best}
+use Rattle.expansions.specs.declared.kinds.Kind.the-variants.{Kronecker}
 use Rattle.expansions.specs.Members.{InClass, Gives}
 use Rattle.listings.specs.Listing.{printedCubes}
 use Rattle.listings.specs.Meaning.{listingValue, listingCubes, statedMixed, statedFixed}
-use Rattle.membership.specs.Class.{ofClass}
 use Rattle.table_texts.specs.declared.sizes.Sizes.{Sizes}
 use Rattle.table_texts.specs.declared.sizes.Design.{Design}
 use Rattle.table_texts.specs.Design.{mixedDesign}
+use Rattle.table_texts.specs.TableTexts.{Means}
 use Rattle.table_texts.specs.Refusals.{TextRefusals}
-use Rattle.table_texts.specs.Read as tables
+use Rattle.table_texts.specs.inner.Reading as tables
 use Rattle.listing_texts.specs.Form.{FormListing, KronListing}
 use Rattle.listing_texts.specs.Listings.{termListing, Passes}
 use Rattle.listing_texts.specs.Refusals.{ListingRefusal}
-use Rattle.shown_rows.specs.Rows.{coefficientIn, complementedIn}
-use Rattle.listing_texts.specs.Read.{ListingReading, shown, refused, listingReading, besideKronecker}
-use Rattle.fitter.specs.Differences.{invertedValue, firstDifference}
 use Rattle.fitter.specs.declared.check.Checked.{Checked}
 use Rattle.fitter.specs.declared.check.Checked.the-variants.{Same, Differs, NotOfClass, Refused}
-
--- ---- the answer as a function
-
--- "differs, with the lowest point that differs; or same"
-abbrev pub compared : Best → Checked
-compared nothing = Same
-compared (best p) = Differs p
-
--- "Class is judged before points.": the listing's refusal, or the answer on its rows
-unfoldable pub judged : Sizes → List ℕ → ListingReading → Checked
-judged z table (shown f v rows) =
-    cond (ofClass (z .class) (z .n) (z .k) (f .mixed) (f .fixed) (complementedIn rows) (coefficientIn rows))
-    (compared (firstDifference (z .n) (invertedValue (z .n) (complementedIn rows) (coefficientIn rows) v) (at table)))
-    NotOfClass
-judged z table (refused number line) = Refused number line
-
--- a listing beside a table with the sizes z
-abbrev pub judgedMixed : Sizes → List ℕ → List ℕ → Checked
-judgedMixed z table s = judged z table (listingReading z s)
-
--- a listing beside a table of n inputs and m outputs for a part of the family, by the kind of k: "a `K` table beside a `form` listing is 12"
-abbrev pub judgedKind : Family → ℕ → ℕ → Kind → List ℕ → List ℕ → Checked
-judgedKind family n m (Mixed C k) table s = judgedMixed (record { n = n; m = m; class = C; k = k; family = family }) table s
-judgedKind family n m Kronecker table s = Refused (besideKronecker s) 1
-
--- a listing beside the table of an accepted text
-unfoldable pub judgedDesign : Design → List ℕ → List ℕ → Checked
-judgedDesign d table s = judgedKind (d .family) (d .n) (d .m) (d .kind) table s
-
--- "The table text is judged first."
-unfoldable pub checked : tables.Reading → List ℕ → Checked
-checked (tables.given d table) s = judgedDesign d table s
-checked (tables.refused number line) s = Refused number line
+use Rattle.fitter.specs.inner.Answer.{checked}
 
 -- ---- the answer in document 02's words
 
@@ -115,16 +76,16 @@ pub record Check (text s : List ℕ) (r : Checked) : Type 0 where
   pub text-first : (number line : ℕ) → tables.reading text ≡ tables.refused number line → r ≡ Refused number line
   -- and so the answer is refused in the documents' words, by the first bad line of the text
   pub text-words : TextRefusals text (λ number line. r ≡ Refused number line)
-  pub words : (z : Sizes) (table : List ℕ) → tables.reading text ≡ tables.given (mixedDesign z) table → Answers z table s r
+  pub words : (z : Sizes) (table : List ℕ) → Means text (mixedDesign z) table → Answers z table s r
   -- "A broken listing line .. is 11 with its line in the listing": 11 with line 1 is said of the listings whose first line is no `form` or `form2` line, and of
   -- no others
-  pub first : (z : Sizes) (table : List ℕ) → tables.reading text ≡ tables.given (mixedDesign z) table → (r ≡ Refused 11 1) ↔ (FormListing s → ⊥)
+  pub first : (z : Sizes) (table : List ℕ) → Means text (mixedDesign z) table → (r ≡ Refused 11 1) ↔ (FormListing s → ⊥)
   -- W-202: "In the fitter's check a `kron` listing is 11, line 1", beside every table text that is accepted
-  pub kron : (d : Design) (table : List ℕ) → tables.reading text ≡ tables.given d table → KronListing s → r ≡ Refused 11 1
+  pub kron : (d : Design) (table : List ℕ) → Means text d table → KronListing s → r ≡ Refused 11 1
   -- "is 11 with its line in the listing", "is 12 with line 1": a listing is refused by no other number
-  pub numbers : (z : Sizes) (table : List ℕ) → tables.reading text ≡ tables.given (mixedDesign z) table → (number line : ℕ) → r ≡ Refused number line
+  pub numbers : (z : Sizes) (table : List ℕ) → Means text (mixedDesign z) table → (number line : ℕ) → r ≡ Refused number line
       → ((number ≡ 11) × (1 ≤ line) × (line ≤ 1 + length s)) ⊎ ((number ≡ 12) × (line ≡ 1))
   -- a listing is refused exactly where document 02 refuses it, by that number and with that line
-  pub refused : (z : Sizes) (table : List ℕ) → tables.reading text ≡ tables.given (mixedDesign z) table → (number line : ℕ)
+  pub refused : (z : Sizes) (table : List ℕ) → Means text (mixedDesign z) table → (number line : ℕ)
       → (r ≡ Refused number line) ↔ ListingRefusal z s number line
-  pub kronecker : (d : Design) (table : List ℕ) → tables.reading text ≡ tables.given d table → d .kind ≡ Kronecker → KroneckerAnswers s r
+  pub kronecker : (d : Design) (table : List ℕ) → Means text d table → d .kind ≡ Kronecker → KroneckerAnswers s r

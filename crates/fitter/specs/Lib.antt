@@ -2,3 +2,4 @@ pub mod Differences
 pub mod Check
 pub mod Print
 pub mod inner
+pub mod AnswerLine

@@ -11,23 +11,14 @@ use Rattle.expansions.specs.declared.kinds.Kind.the-variants.{Kronecker}
 use Rattle.table_texts.specs.declared.sizes.Sizes.{Sizes}
 use Rattle.table_texts.specs.declared.sizes.Design.{Design}
 use Rattle.table_texts.specs.Design.{mixedDesign}
-use Rattle.table_texts.specs.Read.{given, reading}
+use Rattle.table_texts.specs.TableTexts.{Means}
 use Rattle.listing_texts.specs.Listings.{Passes}
-use Rattle.text.specs.Judged.{judged, refusedLine}
+use Rattle.text.specs.Judged.{judged}
 use Rattle.fitter.specs.declared.check.Checked.{Checked}
 use Rattle.fitter.specs.declared.check.Checked.the-variants.{Same, Differs, NotOfClass, Refused}
-use Rattle.fitter.specs.Check.{checked, Check}
-
--- the line of an answer
-unfoldable pub answerLine : Checked → List ℕ
-answerLine Same = line (bytes "same") []
-answerLine (Differs p) = line (bytes "differs") (decimal p ∷ [])
-answerLine NotOfClass = line (bytes "not of the class") []
-answerLine (Refused number l) = refusedLine number l
-
--- what is printed for the two inputs, of each of which the first 8,192 bytes are judged
-unfoldable pub printed : (text listing : List ℕ) → List ℕ
-printed text listing = answerLine (checked (reading (judged text)) (judged listing))
+use Rattle.fitter.specs.Check.{Check}
+use Rattle.fitter.specs.inner.Printed.{printed}
+use Rattle.fitter.specs.AnswerLine.{answerLine}
 
 -- What is handed out for the two inputs: 18 bytes, zero past what is printed, and how many are printed; and when each answer is given
 pub record Print (text listing held : List ℕ) (count : ℕ) : Type 0 where
@@ -36,17 +27,18 @@ pub record Print (text listing held : List ℕ) (count : ℕ) : Type 0 where
   pub within : count ≤ length held
   pub shown : take count held ≡ printed text listing
   -- the first 8,192 bytes of a text that is accepted and of a listing that passes are the whole of them
-  pub whole : (z : Sizes) (table : List ℕ) → reading text ≡ given (mixedDesign z) table → Passes z listing
-      → take count held ≡ answerLine (checked (reading text) listing)
+  pub whole : (z : Sizes) (table : List ℕ) → Means text (mixedDesign z) table → Passes z listing → (judged text ≡ text) × (judged listing ≡ listing)
   -- and beside a `K` table the first 8,192 bytes of any listing give its refusal
-  pub whole-kronecker : (d : Design) (table : List ℕ) → reading text ≡ given d table → d .kind ≡ Kronecker
-      → take count held ≡ answerLine (checked (reading text) listing)
+  pub whole-kronecker : (d : Design) (table : List ℕ) → Means text d table → d .kind ≡ Kronecker → (r : Checked) → Check text listing r
+      → take count held ≡ answerLine r
   -- what is printed is the line of an answer, and this is the check's, in document 02's words
   pub meaning : (r : Checked) × (take count held ≡ answerLine r) × Check (judged text) (judged listing) r
-  -- "say: not of the class; .. or same", in these words
+  -- "say: not of the class; differs, with the lowest point that differs; or same", in these words
   pub same : Check (judged text) (judged listing) Same → take count held ≡ line (bytes "same") []
   pub not-of-class : Check (judged text) (judged listing) NotOfClass → take count held ≡ line (bytes "not of the class") []
-  -- "the line `refused`, number, line": the numbers on the line, read in base ten
-  pub refusal : (number l : ℕ) → Check (judged text) (judged listing) (Refused number l) → firstNumbers (take count held) ≡ number ∷ l ∷ []
-  -- "differs, with the lowest point that differs"
-  pub point : (p : ℕ) → Check (judged text) (judged listing) (Differs p) → firstNumbers (take count held) ≡ p ∷ []
+  -- with the point in base ten
+  pub point : (p : ℕ) → Check (judged text) (judged listing) (Differs p)
+      → (take count held ≡ line (bytes "differs") (decimal p ∷ [])) × (firstNumbers (take count held) ≡ p ∷ [])
+  -- "the line `refused`, number, line", the numbers in base ten
+  pub refusal : (number l : ℕ) → Check (judged text) (judged listing) (Refused number l)
+      → (take count held ≡ line (bytes "refused") (decimal number ∷ decimal l ∷ [])) × (firstNumbers (take count held) ≡ number ∷ l ∷ [])

@@ -1,2 +1,4 @@
 pub mod Differences
 pub mod Judging
+pub mod Answer
+pub mod Printed

@@ -18,7 +18,8 @@ use table_texts::sizes::Sizes;
 ghost use mathlib.Core.Path.{_≡_};
 ghost use Prim.Native.Nat.{_≤_};
 ghost use Rattle.listing_texts.specs.Read.{listingReading};
-ghost use Rattle.fitter.specs.Check.{judged, judgedDesign, Check};
+ghost use Rattle.fitter.specs.Check.{Check};
+ghost use Rattle.fitter.specs.inner.Answer.{judged, judgedDesign};
 ghost use Rattle.fitter.specs.inner.Judging.{judgedRecord};
 
 // The check's answer. A refusal has document 01's or 02's number, and the line in the table text or, for 11 and 12, in the listing.

@@ -11,7 +11,8 @@ ghost use Prim.Native.Nat.{_+_, _≤_};
 ghost use lib.ListN.{length};
 ghost use Rattle.listings.specs.Listing.{line};
 ghost use Rattle.writing.specs.Put.{Put};
-ghost use Rattle.fitter.specs.Print.{answerLine, Print};
+ghost use Rattle.fitter.specs.Print.{Print};
+ghost use Rattle.fitter.specs.AnswerLine.{answerLine};
 
 // What is printed: the first `length` of the bytes. The bytes past them are zero.
 pub struct PrintedCheck {

@@ -17,7 +17,7 @@ use Rattle.table_texts.specs.declared.sizes.Design.{Design}
 use Rattle.table_texts.specs.First.{dashKind, kindOf, tableWord}
 use Rattle.table_texts.specs.Design.{DesignSized}
 use Rattle.table_texts.specs.Accepted.{Accepted}
-use Rattle.table_texts.specs.Read.{given, withDesign, judgedFirst, opened, fromSecond, allLines, reading}
+use Rattle.table_texts.specs.inner.Reading.{given, withDesign, judgedFirst, opened, fromSecond, allLines, reading}
 use Rattle.table_texts.specs.TableTexts.{kindField, pointLines, designLine, textWith, tableText, dashText, dashCharacters}
 use Rattle.table_texts.proofs.Design.{design-accepted}
 use Rattle.table_texts.proofs.DesignLine.{sized-digit, kind-dash, kind-said, dash-said, dash-only, plain-table, plain-said, design-said}

@@ -37,7 +37,7 @@ use Rattle.table_texts.specs.declared.sizes.Design.{Design}
 use Rattle.table_texts.specs.declared.read.ReadAnswer.the-variants as answer
 use Rattle.table_texts.specs.Design.{designRefusal, KindSized}
 use Rattle.table_texts.specs.First.{mixedKind, dashKind, kindOf, kindThen, tableLine, tableWord, firstLine}
-use Rattle.table_texts.specs.Read.{judgedFirst}
+use Rattle.table_texts.specs.inner.Reading.{judgedFirst}
 use Rattle.table_texts.specs.TableTexts.{kindField, dashCharacters, KindCharacters}
 use Rattle.table_texts.specs.Refusals.{OneDigit}
 

@@ -17,7 +17,7 @@ use Rattle.table_texts.specs.declared.sizes.Design.{Design}
 use Rattle.table_texts.specs.First.{kindOf, tableWord, firstLine}
 use Rattle.table_texts.specs.Design.{designRefusal}
 use Rattle.table_texts.specs.Accepted.{Accepted}
-use Rattle.table_texts.specs.Read.{given, judgedFirst, opened, fromSecond, allLines, reading}
+use Rattle.table_texts.specs.inner.Reading.{given, judgedFirst, opened, fromSecond, allLines, reading}
 use Rattle.table_texts.specs.TableTexts.{kindField, KindCharacters, pointLines, designLine, textWith, tableText, dashText, IsText}
 use Rattle.table_texts.proofs.read.Accepted.{no-refusal, with-given, refused-given, first-sized, reading-accepted, design-given}
 use Rattle.table_texts.proofs.Acceptance.{first-read, table-text-accepted, dash-text-accepted}

@@ -27,7 +27,7 @@ use Rattle.table_texts.specs.Accepted.{Accepted}
 use Rattle.listings.specs.Parts.{bytes}
 use Rattle.listings.specs.Listing.{tabbed, line, digitCount, descending, decimal, mixedMark, mixedField}
 use Rattle.table_texts.specs.First.{tableWord}
-use Rattle.table_texts.specs.Read.{given, reading}
+use Rattle.table_texts.specs.inner.Reading.{given, reading}
 use Rattle.table_texts.proofs.read.Accepted.{reading-accepted}
 use Rattle.listings.proofs.Characters.{length-decimal, length-outputs}
 use Rattle.listings.proofs.Lengths.{length-mixedMark}

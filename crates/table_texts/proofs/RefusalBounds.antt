@@ -14,7 +14,7 @@ use Rattle.table_texts.specs.declared.first.FirstLine.{FirstLine}
 use Rattle.table_texts.specs.declared.sizes.Design.{Design}
 use Rattle.table_texts.specs.Design.{designRefusal}
 use Rattle.table_texts.specs.First.{firstLine}
-use Rattle.table_texts.specs.Read.{Reading, given, refused, withDesign, designJudged, judgedFirst, opened, allLines, reading}
+use Rattle.table_texts.specs.inner.Reading.{Reading, given, refused, withDesign, designJudged, judgedFirst, opened, allLines, reading}
 use Rattle.table_texts.proofs.Design.{design-most}
 
 -- a refusal by 1 to 6, on a line from `least` to `most`

@@ -31,7 +31,7 @@ use Rattle.table_texts.specs.declared.first.FirstLine.the-variants as fi
 use Rattle.table_texts.specs.declared.sizes.Design.{Design}
 use Rattle.table_texts.specs.Design.{kindRefusal, designRefusal, KindSized, KindFor}
 use Rattle.table_texts.specs.First.{kindOf, tableWord, firstLine}
-use Rattle.table_texts.specs.Read.{refused, withDesign, judgedFirst, allLines, reading}
+use Rattle.table_texts.specs.inner.Reading.{refused, withDesign, judgedFirst, allLines, reading}
 use Rattle.table_texts.specs.TableTexts.{pointLine, pointLines, designLine}
 use Rattle.table_texts.specs.Refusals.{KindSays, TableLine, PointsPass, NoOn, TextRefusals}
 use Rattle.table_texts.proofs.Acceptance.{design-judged, first-read}

@@ -1,80 +1,16 @@
--- What a table text means: its design and its table, or the refusal that it meets. Document 01, "Text in, listing out" and "Why a call
--- declines".
-use mathlib.Core.Bool.{cond}
-use mathlib.Core.List.{List, [], _∷_}
+-- The reading call: what it returns and every byte of the lent table, for every text. Document 01, "Text in, listing out" and "Why a call declines". What a text
+-- means, as a function, stands in inner/Reading.
+use mathlib.Core.List.{List}
 use mathlib.Core.Logic.{_↔_}
 use mathlib.Core.Path.{_≡_}
-use Prim.Native.Nat.{ℕ, zero, suc}
-use lib.Dec.{eqb}
-use lib.ListN.{length, replicate}
-use Rattle.listings.specs.Parts.{parts}
-use Rattle.lines.specs.Rows as later
-use Rattle.lines.specs.Rows.{RowsRead, tableGrammar, rowLine, unfinished, laterLines}
+use Prim.Native.Nat.{ℕ}
+use lib.ListN.{length}
 use Rattle.table_texts.specs.declared.sizes.Design.{Design}
-use Rattle.table_texts.specs.declared.first.FirstLine.{FirstLine}
-use Rattle.table_texts.specs.declared.first.FirstLine.the-variants as first
 use Rattle.table_texts.specs.declared.read.ReadAnswer.{ReadAnswer}
 use Rattle.table_texts.specs.declared.read.ReadAnswer.the-variants as answer
-use Rattle.table_texts.specs.Design.{designRefusal}
-use Rattle.table_texts.specs.First.{firstLine}
-use Rattle.table_texts.specs.Accepted.{Accepted}
-use Rattle.table_texts.specs.TableTexts.{IsText}
+use Rattle.table_texts.specs.TableTexts.{Means}
 use Rattle.table_texts.specs.Refusals.{TextRefusals}
-
--- "returns n, m, k", of k "the kind of k", and "the family too", and "fills a lent table of 256 bytes"; "A refusal returns its number and the line"
-pub data Reading : Type 0 where
-  given : (design : Design) (table : List ℕ) → Reading
-  refused : (number line : ℕ) → Reading
-
--- the design with the table that the lines after the first give, or their refusal
-unfoldable pub withDesign : Design → RowsRead → Reading
-withDesign design (later.rows table) = given design table
-withDesign design (later.refused number line) = refused number line
-
--- the design where it is not refused, and else its refusal, in line 1
-abbrev pub designJudged : ℕ → Design → ReadAnswer
-designJudged zero design = answer.Given design
-designJudged (suc x) design = answer.Refused (suc x) 1
-
--- "In line 1 the order is 1, 2, 3, 4."
-unfoldable pub judgedFirst : FirstLine → ReadAnswer
-judgedFirst first.Wrong = answer.Refused 1 1
-judgedFirst (first.Table design) = designJudged (designRefusal design) design
-
--- what follows the first line, where it is not refused
-abbrev pub opened : ReadAnswer → (Design → Reading) → Reading
-opened (answer.Given design) next = next design
-opened (answer.Refused number line) next = refused number line
-
--- the lines after the first, from line 2 on, of the design that the first one says: "Points not listed are all zero."
-abbrev pub fromSecond : List ℕ → List (List ℕ) → Design → Reading
-fromSecond l ls design = withDesign design (laterLines (rowLine (tableGrammar (design .n) (design .m))) (design .n) 2 0 (replicate 256 0) l ls)
-
--- the first line, and the lines after it
-unfoldable pub allLines : List ℕ → List (List ℕ) → Reading
-allLines l [] = refused (unfinished l) 1
-allLines l (l′ ∷ ls) = opened (judgedFirst (firstLine l)) (fromSecond l′ ls)
-
--- "Each line ends with byte 10": what a text means
-unfoldable pub reading : List ℕ → Reading
-reading s = allLines (parts 10 s .first) (parts 10 s .others)
-
--- ---- the reading call
-
--- "8. A lent table .. has another length than its call states": the text is judged first
-unfoldable pub lent : Reading → ℕ → Reading
-lent (given design table) room = cond (eqb room 256) (given design table) (refused 8 0)
-lent (refused number line) room = refused number line
-
--- what each case of the answer stands for, with the lent table as the call leaves it
-unfoldable pub standsFor : ReadAnswer → List ℕ → Reading
-standsFor (answer.Given design) table = given design table
-standsFor (answer.Refused number line) table = refused number line
-
--- what the lent table holds after a reading; under a refusal it is as it was
-unfoldable pub tableAfter : Reading → List ℕ → List ℕ
-tableAfter (given design table) before = table
-tableAfter (refused number line) before = before
+use Rattle.table_texts.specs.inner.Reading.{reading, lent, standsFor, tableAfter}
 
 -- "The reading call fills a lent table of 256 bytes, zero from 2^n on, and returns n, m, k."; document 02: it "returns the kind of k" and "returns the
 -- family too"
@@ -82,9 +18,9 @@ pub record ReadTable (text before : List ℕ) (r : ReadAnswer) (after : List ℕ
   pub result : standsFor r after ≡ lent (reading text) (length before)
   pub table : after ≡ tableAfter (lent (reading text) (length before)) before
   -- a design and a table are given exactly where they are within the limits, the text is theirs, and the lent table has 256 bytes
-  pub accepted : (d : Design) (t : List ℕ) → ((r ≡ answer.Given d) × (after ≡ t)) ↔ (Accepted d t × IsText text d t × (length before ≡ 256))
+  pub accepted : (d : Design) (t : List ℕ) → ((r ≡ answer.Given d) × (after ≡ t)) ↔ (Means text d t × (length before ≡ 256))
   -- "the first bad line counts": a text is refused by the number and the line of what it breaks, whatever follows and whatever is lent
   pub refusals : TextRefusals text (λ number line. r ≡ answer.Refused number line)
   -- "8. A lent table .. has another length than its call states", with line 0: after the text
-  pub room : (d : Design) (t : List ℕ) → Accepted d t → IsText text d t → (length before ≡ 256 → ⊥) → r ≡ answer.Refused 8 0
+  pub room : (d : Design) (t : List ℕ) → Means text d t → (length before ≡ 256 → ⊥) → r ≡ answer.Refused 8 0
   pub kept : (number line : ℕ) → r ≡ answer.Refused number line → after ≡ before

@@ -14,6 +14,7 @@ use Rattle.expansions.specs.declared.kinds.Kind.the-variants.{Mixed, Kronecker}
 use Rattle.table_texts.specs.declared.sizes.Design.{Design}
 use Rattle.listings.specs.Parts.{bytes}
 use Rattle.listings.specs.Listing.{line, decimal, outputBytes, mixedField}
+use Rattle.table_texts.specs.Accepted.{Accepted}
 use Rattle.table_texts.specs.First.{tableWord}
 
 -- "`on`, point, outputs": the point p with the outputs o, of m outputs
@@ -57,3 +58,7 @@ dashText d t = textWith (bytes "-") d t
 -- s is the text for the design d and the table t, with the characters of its kind of k, or with `-` where this means it
 abbrev pub IsText : List ℕ → Design → List ℕ → Type 0
 IsText s d t = (s ≡ tableText d t) ⊎ ((kindField (d .kind) ≡ dashCharacters (d .n)) × (s ≡ dashText d t))
+
+-- the text s is accepted: it is the text for the design d and the table t, and these are within the limits
+abbrev pub Means : List ℕ → Design → List ℕ → Type 0
+Means s d t = Accepted d t × IsText s d t

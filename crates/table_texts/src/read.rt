@@ -18,7 +18,8 @@ ghost use Rattle.numbers.specs.Bytes.{at};
 ghost use Rattle.lines.specs.Rows.{tableGrammar};
 ghost use Rattle.lines.specs.inner.Steps.{rowsAt, Within};
 ghost use Rattle.table_texts.specs.First.{firstLine};
-ghost use Rattle.table_texts.specs.Read.{withDesign, judgedFirst, reading, standsFor, ReadTable};
+ghost use Rattle.table_texts.specs.Read.{ReadTable};
+ghost use Rattle.table_texts.specs.inner.Reading.{withDesign, judgedFirst, reading, standsFor};
 
 // The reading call's answer. A refusal has document 01's number and the line.
 pub enum ReadAnswer {

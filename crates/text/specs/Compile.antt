@@ -8,9 +8,8 @@ use Rattle.numbers.specs.Bytes.{at}
 use Rattle.text.specs.declared.compile.Compiled.{Compiled}
 use Rattle.text.specs.declared.compile.Compiled.the-variants.{Written, Refused}
 use Rattle.table_texts.specs.declared.sizes.Design.{Design}
-use Rattle.table_texts.specs.Accepted.{Accepted}
-use Rattle.table_texts.specs.TableTexts.{IsText}
-use Rattle.table_texts.specs.Read.{reading}
+use Rattle.table_texts.specs.TableTexts.{Means}
+use Rattle.table_texts.specs.inner.Reading.{reading}
 use Rattle.table_texts.specs.Refusals.{TextRefusals}
 use Rattle.listings.specs.Meaning.{IsListing}
 use Rattle.listings.specs.AnswerListing.{IsAnswerListing}
@@ -35,9 +34,9 @@ pub record Compile (text before after : List ℕ) (r : Compiled) : Type 0 where
   -- "the first bad line counts": a text is refused by the number and the line of what it breaks, whatever follows and whatever is lent
   pub refusals : TextRefusals text (λ number line. r ≡ Refused number line)
   -- the text of a design and a table within the limits is compiled, as the documents define the answer
-  pub chosen : (d : Design) (table : List ℕ) → Accepted d table → IsText text d table → Chosen d table before after r
+  pub chosen : (d : Design) (table : List ℕ) → Means text d table → Chosen d table before after r
   -- demand 3, of the bytes that now stand in the buffer
-  pub meaning : (d : Design) (table : List ℕ) → Accepted d table → IsText text d table → (written : ℕ) → r ≡ Written written
+  pub meaning : (d : Design) (table : List ℕ) → Means text d table → (written : ℕ) → r ≡ Written written
       → IsListing (d .n) (d .family) (d .kind) (at table) (take written after)
   -- the longest listing has 5,919 bytes: a buffer of that length is never short
   pub room : 5919 ≤ length before → (line : ℕ) → r ≡ Refused 10 line → ⊥

@@ -15,7 +15,7 @@ use table_texts::sizes::Design;
 use table_texts::sizes::Sizes;
 ghost use mathlib.Core.Path.{_≡_};
 ghost use lib.ListN.{length};
-ghost use Rattle.table_texts.specs.Read.{given};
+ghost use Rattle.table_texts.specs.inner.Reading.{given};
 ghost use Rattle.table_texts.specs.Design.{mixedDesign, kroneckerDesign};
 ghost use Rattle.listing_writing.specs.Write.{WriteListing};
 ghost use Rattle.text.specs.Compile.{Compile};

@@ -10,7 +10,7 @@ use Rattle.listing_texts.specs.declared.read.ListingRead.{ListingRead}
 use Rattle.fitter.specs.declared.check.Checked.{Checked}
 use Rattle.fitter.specs.declared.check.Checked.the-variants.{NotOfClass}
 use Rattle.fitter.specs.Differences.{invertedValue, firstDifference}
-use Rattle.fitter.specs.Check.{compared}
+use Rattle.fitter.specs.inner.Answer.{compared}
 
 -- the class, then the points, from the record and the inputs that each cube shows complemented
 unfoldable pub judgedRecord : Sizes → List ℕ → ListingRead → Checked

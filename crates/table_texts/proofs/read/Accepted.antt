@@ -16,7 +16,8 @@ use Rattle.table_texts.specs.declared.sizes.Design.{Design}
 use Rattle.table_texts.specs.Design.{designRefusal, DesignSized}
 use Rattle.table_texts.specs.First.{firstLine}
 use Rattle.table_texts.specs.Accepted.{Accepted}
-use Rattle.table_texts.specs.Read.{Reading, given, refused, withDesign, designJudged, judgedFirst, opened, fromSecond, allLines, reading, lent, standsFor, ReadTable}
+use Rattle.table_texts.specs.Read.{ReadTable}
+use Rattle.table_texts.specs.inner.Reading.{Reading, given, refused, withDesign, designJudged, judgedFirst, opened, fromSecond, allLines, reading, lent, standsFor}
 use Rattle.table_texts.proofs.Design.{design-none}
 use Rattle.table_texts.proofs.Points.{points-read}
 

@@ -4,7 +4,7 @@ use Prim.Native.Nat.{ℕ, zero, suc}
 use native.Mathlib.Omega.{arith}
 use Rattle.table_texts.specs.declared.read.ReadAnswer.the-variants.{Given, Refused}
 use Rattle.table_texts.specs.declared.sizes.Design.{Design}
-use Rattle.table_texts.specs.Read.{designJudged}
+use Rattle.table_texts.specs.inner.Reading.{designJudged}
 
 pub design-refused : (number line x : ℕ) (d : Design) → number ≡ x → line ≡ 1 → (number ≡ 0 → ⊥) → Refused number line ≡ designJudged x d
 design-refused number line zero d e first h = absurd (h e)

@@ -11,7 +11,7 @@ use Rattle.listings.proofs.Parts.{first-take, others-last, others-next}
 use Rattle.lines.specs.Rows.{unfinished}
 use Rattle.table_texts.specs.declared.sizes.Design.{Design}
 use Rattle.table_texts.specs.First.{firstLine}
-use Rattle.table_texts.specs.Read.{Reading, refused, judgedFirst, opened, fromSecond, allLines, reading}
+use Rattle.table_texts.specs.inner.Reading.{Reading, refused, judgedFirst, opened, fromSecond, allLines, reading}
 
 module _ (s : List ℕ) (to : ℕ) (e : to ≡ stop 10 s 0) where
   first-part : take to s ≡ parts 10 s .first

@@ -9,7 +9,8 @@ use lib.ListN.{length}
 use Rattle.table_texts.specs.declared.read.ReadAnswer.the-variants as answer
 use Rattle.table_texts.specs.declared.read.ReadAnswer.{ReadAnswer}
 use Rattle.table_texts.specs.declared.sizes.Design.{Design}
-use Rattle.table_texts.specs.Read.{Reading, given, refused, reading, lent, standsFor, tableAfter, ReadTable}
+use Rattle.table_texts.specs.Read.{ReadTable}
+use Rattle.table_texts.specs.inner.Reading.{Reading, given, refused, reading, lent, standsFor, tableAfter}
 use Rattle.table_texts.proofs.Exactness.{accepted-exactly}
 use Rattle.table_texts.proofs.Refusals.{text-refusals}
 use Rattle.table_texts.proofs.read.Accepted.{no-refusal}
@@ -61,11 +62,11 @@ read-words text before after r result table =
         (λ h.
             let e = lent-given (reading text) (length before) d t (sym result ∙ ap₂ standsFor (h .0) (h .1)) in
             let a = accepted-exactly text d t .0 (e .0) in
-            (a .0, a .1, e .1)),
-        (λ h. answer-given r after d t (result ∙ lent-whole (reading text) (length before) d t (accepted-exactly text d t .1 (h .0, h .1)) (h .2))),
+            (a, e .1)),
+        (λ h. answer-given r after d t (result ∙ lent-whole (reading text) (length before) d t (accepted-exactly text d t .1 (h .0)) (h .1))),
       );
       refusals = text-refusals text (λ x l. r ≡ answer.Refused x l) (λ x l e. answer-refused r after x l (result ∙ lent-refused (reading text) (length before) x l e));
-      room = λ d t a is none. answer-refused r after 8 0 (result ∙ lent-short (reading text) (length before) d t (accepted-exactly text d t .1 (a, is)) none);
+      room = λ d t m none. answer-refused r after 8 0 (result ∙ lent-short (reading text) (length before) d t (accepted-exactly text d t .1 m) none);
       kept = λ x l e.
           table ∙ ap (λ (y : Reading). tableAfter y before) (sym result ∙ ap (λ (y : ReadAnswer). standsFor y after) e);
     }

@@ -25,7 +25,7 @@ use Rattle.table_texts.specs.declared.read.ReadAnswer.the-variants as answer
 use Rattle.text.specs.declared.compile.Compiled.{Compiled}
 use Rattle.text.specs.declared.compile.Compiled.the-variants.{Written, Refused}
 use Rattle.table_texts.specs.Accepted.{Accepted}
-use Rattle.table_texts.specs.Read.{Reading, given, refused, reading, standsFor}
+use Rattle.table_texts.specs.inner.Reading.{Reading, given, refused, reading, standsFor}
 use Rattle.text.specs.Compile.{Chosen, Compile}
 use Rattle.text.specs.inner.Compiled.{kindListing, answerListing, compiled, bufferAfter}
 use Rattle.listings.specs.Meaning.{IsListing}
@@ -169,13 +169,13 @@ compile-meaning text before after r er ea =
       bytes = ea;
       refusals = text-refusals text (λ number line. r ≡ Refused number line)
           (λ number line e. er ∙ ap (λ (x : Reading). compiled x (length before)) e);
-      chosen = λ d table a is.
-          let e = accepted-exactly text d table .1 (a, is) in
-          given-chosen d table before after r a (er ∙ ap (λ (x : Reading). compiled x (length before)) e) (ea ∙ ap (λ (x : Reading). bufferAfter x before) e);
-      meaning = λ d table a is written w.
-          let e = accepted-exactly text d table .1 (a, is) in
+      chosen = λ d table means.
+          let e = accepted-exactly text d table .1 means in
+          given-chosen d table before after r (means .0) (er ∙ ap (λ (x : Reading). compiled x (length before)) e) (ea ∙ ap (λ (x : Reading). bufferAfter x before) e);
+      meaning = λ d table means written w.
+          let e = accepted-exactly text d table .1 means in
           let listed = written-listing d table before after written (sym w ∙ er ∙ ap (λ (x : Reading). compiled x (length before)) e) (ea ∙ ap (λ (x : Reading). bufferAfter x before) e) in
-          subst (IsListing (d .n) (d .family) (d .kind) (at table)) (sym listed) (answer-listing d table a);
+          subst (IsListing (d .n) (d .family) (d .kind) (at table)) (sym listed) (answer-listing d table (means .0));
       room = λ h line e. given-room text (length before) line h (sym er ∙ e);
       kept = λ number line e. ea ∙ refused-kept (reading text) before number line (sym er ∙ e);
     }
@@ -183,7 +183,7 @@ compile-meaning text before after r er ea =
 -- what a text means, and demand 3 of what is written for it
 pub compile-listed : (text before after : List ℕ) (written : ℕ) (d : Design) (table : List ℕ) → Compile text before after (Written written)
     → reading text ≡ given d table → IsListing (d .n) (d .family) (d .kind) (at table) (take written after)
-compile-listed text before after written d table c e = let a = accepted-exactly text d table .0 e in c .meaning d table (a .0) (a .1) written refl
+compile-listed text before after written d table c e = c .meaning d table (accepted-exactly text d table .0 e) written refl
 
 -- by the reading call's answer
 

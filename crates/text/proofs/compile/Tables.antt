@@ -26,7 +26,7 @@ use Rattle.kronecker.proofs.expansion.Answer.{answerKronecker-is, answerKroneck
 use Rattle.kronecker.proofs.answer.Searchable.{searched-kronecker}
 use Rattle.table_texts.specs.declared.sizes.Design.{Design}
 use Rattle.table_texts.specs.Accepted.{Table}
-use Rattle.table_texts.specs.Read.{given}
+use Rattle.table_texts.specs.inner.Reading.{given}
 use Rattle.listings.specs.inner.Listable.{Listable}
 use Rattle.listings.proofs.ListedAnswers.{answer-listable}
 use Rattle.listing_writing.specs.declared.listed.Listed.{Listed}

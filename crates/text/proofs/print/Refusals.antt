@@ -8,7 +8,7 @@ use lib.ListN.{length, length-append, length-take}
 use Rattle.listings.specs.Parts.{bytes}
 use Rattle.listings.specs.Listing.{tabbed, line, decimal}
 use Rattle.listings.specs.Meaning.{firstNumbers}
-use Rattle.table_texts.specs.Read.{refused, reading}
+use Rattle.table_texts.specs.inner.Reading.{refused, reading}
 use Rattle.table_texts.proofs.RefusalBounds.{reading-refused}
 use Rattle.text.specs.Judged.{judged, refusedLine}
 use Rattle.listings.proofs.Joined.{Plain}

@@ -14,9 +14,8 @@ use Rattle.numbers.proofs.Tables.{drop-zeros}
 use Rattle.table_texts.specs.declared.sizes.Design.{Design}
 use Rattle.text.specs.declared.compile.Compiled.{Compiled}
 use Rattle.text.specs.declared.compile.Compiled.the-variants.{Written, Refused}
-use Rattle.table_texts.specs.Accepted.{Accepted}
-use Rattle.table_texts.specs.TableTexts.{IsText}
-use Rattle.table_texts.specs.Read.{Reading, given, refused, reading}
+use Rattle.table_texts.specs.TableTexts.{Means}
+use Rattle.table_texts.specs.inner.Reading.{Reading, given, refused, reading}
 use Rattle.writing.specs.Put.{Put}
 use Rattle.listings.specs.Meaning.{firstNumbers, IsListing}
 use Rattle.listings.specs.AnswerListing.{IsAnswerListing}
@@ -58,19 +57,19 @@ print-holds input held count ec eh =
     let past = drop-zeros (length (printed input)) 5919 (printed-within input) in
     let filled : held ≡ printed input ++ replicate (5919 - length (printed input)) 0 = eh ∙ ap (λ (v : List ℕ). printed input ++ v) past in
     let shown : take count held ≡ printed input = rw (ec, filled) (take-append-seam (printed input) _) in
-    let listed : (d : Design) (table : List ℕ) → Accepted d table → IsText (judged input) d table → take count held ≡ answerListing d table =
-    λ d table a is. shown ∙ ap printedFor (accepted-exactly (judged input) d table .1 (a, is)) in
+    let listed : (d : Design) (table : List ℕ) → Means (judged input) d table → take count held ≡ answerListing d table =
+    λ d table means. shown ∙ ap printedFor (accepted-exactly (judged input) d table .1 means) in
     record {
       counted = ec;
       filled = filled;
       within = omega (arith, ec, ap length filled, length-append (printed input) (replicate (5919 - length (printed input)) 0));
       shown = shown;
-      chosen = λ d table a is.
-          subst (λ (l : List ℕ). IsAnswerListing (d .n) (d .m) (d .family) (at table) l (d .kind)) (sym (listed d table a is)) (answer-chosen d table a);
-      meaning = λ d table a is. subst (IsListing (d .n) (d .family) (d .kind) (at table)) (sym (listed d table a is)) (answer-listing d table a);
+      chosen = λ d table means.
+          subst (λ (l : List ℕ). IsAnswerListing (d .n) (d .m) (d .family) (at table) l (d .kind)) (sym (listed d table means)) (answer-chosen d table (means .0));
+      meaning = λ d table means. subst (IsListing (d .n) (d .family) (d .kind) (at table)) (sym (listed d table means)) (answer-listing d table (means .0));
       refusals = text-refusals (judged input) (λ number l. (take count held ≡ refusedLine number l) × (firstNumbers (take count held) ≡ number ∷ l ∷ []))
           (λ number l e. (shown ∙ ap printedFor e, ap firstNumbers (shown ∙ ap printedFor e) ∙ refusal-said input number l e));
-      whole = λ d table a is. accepted-text-first input d table (accepted-exactly input d table .1 (a, is));
+      whole = λ d table means. accepted-text-first input d table (accepted-exactly input d table .1 means);
     }
 
 -- where the whole input is accepted, its listing is printed
@@ -78,8 +77,7 @@ pub print-whole : (input held : List ℕ) (count : ℕ) (d : Design) (table : Li
     → take count held ≡ answerListing d table
 unfolding printed printedFor
 print-whole input held count d table print e =
-    let a = accepted-exactly input d table .0 e in
-    print .shown ∙ ap (λ (x : List ℕ). printedFor (reading x)) (print .whole d table (a .0) (a .1)) ∙ ap printedFor e
+    print .shown ∙ ap (λ (x : List ℕ). printedFor (reading x)) (print .whole d table (accepted-exactly input d table .0 e)) ∙ ap printedFor e
 
 -- ---- by the text call's answer
 

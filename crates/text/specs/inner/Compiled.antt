@@ -14,7 +14,7 @@ use Rattle.expansions.specs.declared.families.Family.{Family}
 use Rattle.expansions.specs.declared.kinds.Kind.{Kind}
 use Rattle.expansions.specs.declared.kinds.Kind.the-variants.{Mixed, Kronecker}
 use Rattle.table_texts.specs.declared.sizes.Design.{Design}
-use Rattle.table_texts.specs.Read.{Reading, given, refused}
+use Rattle.table_texts.specs.inner.Reading.{Reading, given, refused}
 use Rattle.listings.specs.Listing.{listing}
 use Rattle.listing_writing.specs.Write.{recordListing}
 

@@ -1,7 +1,7 @@
 -- What the program prints, as a function; no promise rests on this file.
 use mathlib.Core.List.{List}
 use Prim.Native.Nat.{ℕ}
-use Rattle.table_texts.specs.Read.{Reading, given, refused, reading}
+use Rattle.table_texts.specs.inner.Reading.{Reading, given, refused, reading}
 use Rattle.text.specs.inner.Compiled.{answerListing}
 use Rattle.text.specs.Judged.{judged, refusedLine}
 

@@ -1,7 +1,7 @@
 -- `read_numbers` meets its contract, case by case.
 use borrow.Author.Needs.{needs}
 use mathlib.Core.Path.{ap, sym, _∙_}
-use Rattle.table_texts.specs.Read.{standsFor}
+use Rattle.table_texts.specs.inner.Reading.{standsFor}
 use Rattle.capi.specs.Answers.{readNumbers}
 use Rattle.capi.proofs.table_text.read_numbers.Statement.{statement}
 use Rattle.capi.proofs.table_text.read_numbers.Tie as tie

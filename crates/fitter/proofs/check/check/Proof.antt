@@ -1,8 +1,8 @@
 -- `check` meets its contract: the text is refused, or the listing is judged beside its table.
 use mathlib.Core.Path.{_≡_, refl, sym, ap, _∙_}
-use Rattle.table_texts.specs.Read.{Reading, reading, standsFor}
+use Rattle.table_texts.specs.inner.Reading.{Reading, reading, standsFor}
 use Rattle.table_texts.proofs.read.Accepted.{reading-accepted, read-whole, reads-given, reads-refused}
-use Rattle.fitter.specs.Check.{checked}
+use Rattle.fitter.specs.inner.Answer.{checked}
 use Rattle.fitter.proofs.Answers.{check-words}
 use borrow.Author.Needs.{needs}
 use Rattle.fitter.proofs.check.check.Statement.{statement}

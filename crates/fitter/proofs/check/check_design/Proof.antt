@@ -1,6 +1,6 @@
 -- `check_design` meets its contract, by the kind of k.
 use mathlib.Core.Path.{_∙_}
-use Rattle.fitter.specs.Check.{judgedDesign}
+use Rattle.fitter.specs.inner.Answer.{judgedDesign}
 use borrow.Author.Needs.{needs}
 use Rattle.fitter.proofs.check.check_design.Statement.{statement}
 use Rattle.fitter.proofs.check.check_design.Tie as tie

@@ -4,7 +4,7 @@ use native.Mathlib.Omega.{arith}
 use Rattle.listings.specs.Parts.{bytes}
 use Rattle.listings.proofs.Lengths.{digitsOf-le}
 use Rattle.text.specs.Judged.{refusedLine}
-use Rattle.fitter.specs.Print.{answerLine}
+use Rattle.fitter.specs.AnswerLine.{answerLine}
 use borrow.Author.Needs.{needs}
 use Rattle.fitter.proofs.print.write_answer.Statement.{statement}
 use Rattle.fitter.proofs.print.write_answer.Tie as tie

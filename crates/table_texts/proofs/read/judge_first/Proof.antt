@@ -1,6 +1,6 @@
 -- `judge_first` meets its contract. The returns follow the order of refusals in line 1.
 use borrow.Author.Needs.{needs}
-use Rattle.table_texts.specs.Read.{judgedFirst}
+use Rattle.table_texts.specs.inner.Reading.{judgedFirst}
 use Rattle.table_texts.proofs.read.Judged.{design-refused, design-passed}
 use Rattle.table_texts.proofs.read.judge_first.Statement.{statement}
 use Rattle.table_texts.proofs.read.judge_first.Tie as tie

@@ -2,7 +2,7 @@
 use mathlib.Core.Path.{ap}
 use borrow.Author.Needs.{needs}
 use Rattle.lines.specs.Rows as later
-use Rattle.table_texts.specs.Read.{withDesign, standsFor}
+use Rattle.table_texts.specs.inner.Reading.{withDesign, standsFor}
 use Rattle.table_texts.proofs.read.judge_points.Statement.{statement}
 use Rattle.table_texts.proofs.read.judge_points.Tie as tie
 

@@ -6,7 +6,7 @@ use borrow.Author.Needs.{needs}
 use lib.ListN.{length}
 use lib.Seq.{length-take-le}
 use Rattle.listings.specs.inner.Stops.{stop}
-use Rattle.table_texts.specs.Read.{standsFor}
+use Rattle.table_texts.specs.inner.Reading.{standsFor}
 use Rattle.table_texts.proofs.read.Accepted.{first-sized}
 use Rattle.listings.proofs.Parts.{stop-le}
 use Rattle.table_texts.proofs.read.Steps.{text-unfinished, text-judged}

@@ -5,7 +5,7 @@ use borrow.Author.Needs.{needs}
 use borrow.Author.Tests.{eq-eqb, ne-eqb}
 use lib.ListN.{length}
 use Rattle.numbers.proofs.Shifts.{points-le}
-use Rattle.table_texts.specs.Read.{given, reading, standsFor, lent, tableAfter}
+use Rattle.table_texts.specs.inner.Reading.{given, reading, standsFor, lent, tableAfter}
 use Rattle.table_texts.proofs.read.Accepted.{reading-accepted}
 use Rattle.table_texts.proofs.read.Words.{read-words}
 use Rattle.table_texts.proofs.read.read_table.Statement.{statement}

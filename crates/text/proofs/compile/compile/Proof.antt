@@ -1,7 +1,7 @@
 -- `compile` meets its contract: the text is refused, or its table is compiled.
 use borrow.Author.Needs.{needs}
 use mathlib.Core.Path.{_≡_, refl}
-use Rattle.table_texts.specs.Read.{reading, standsFor}
+use Rattle.table_texts.specs.inner.Reading.{reading, standsFor}
 use Rattle.table_texts.proofs.read.Accepted.{reading-accepted, read-whole, reads-given}
 use Rattle.text.proofs.compile.Listings.{compile-given, compile-refused}
 use Rattle.text.proofs.compile.compile.Statement.{statement}
