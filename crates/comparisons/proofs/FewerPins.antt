@@ -1,7 +1,7 @@
 -- W-206 of texts and their listings (`fewer-pins`): the counts that two listings state are the least costs of their tables, and so follow the law of tables
 -- (`listed-no-dearer`).
 use mathlib.Core.List.{List}
-use mathlib.Core.Path.{_≡_, refl, subst, fun-ext}
+use mathlib.Core.Path.{_≡_, subst, fun-ext}
 use Prim.Native.Nat.{ℕ}
 use lib.ListN.{take}
 use Rattle.numbers.specs.Bytes.{at}

@@ -2,7 +2,7 @@
 -- costs of their table, and so follow the law of tables. Where fewer than two inputs are mixed the listings of both classes are the same but for the field
 -- (`alike-fields`).
 use mathlib.Core.List.{List}
-use mathlib.Core.Path.{_≡_, refl, ap, fun-ext, _∙_}
+use mathlib.Core.Path.{_≡_, ap, fun-ext, _∙_}
 use Prim.Native.Nat.{ℕ, suc, _≤_, _<_}
 use Rattle.numbers.specs.Bytes.{at}
 use Rattle.expansions.specs.declared.families.Family.{Family}

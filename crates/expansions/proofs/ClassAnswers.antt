@@ -1,7 +1,6 @@
 -- The answer of either class, term by term: what an answer by the choices of its blocks is (`class-answer-from`), and that there is one only
 -- (`class-answers-same`), as far as its lines show it. Expansions whose lines agree where both have them, and that give the same table, have the same
 -- coefficients (`agreeing-unique`).
-use mathlib.Core.Bool.{Bool, true, false, cond}
 use mathlib.Core.Path.{_≡_, refl, sym, ap, ap₂, _∙_, subst}
 use Prim.Native.Nat.{ℕ, zero, suc, _-_, _^_, _≤_, _<_}
 use native.Mathlib.Decide.{ℕ-discrete}

@@ -1,8 +1,8 @@
 -- There is one listing of the answer (`answer-listings-same`): a listing shows of the polarities what its lines show (`lines-same`), and as far as that there is
 -- one answer.
 use mathlib.Core.List.{List}
-use mathlib.Core.Path.{_≡_, refl, sym, ap, ap₂, _∙_}
-use Prim.Native.Nat.{ℕ, zero, _+_, _^_, _<_}
+use mathlib.Core.Path.{_≡_, sym, ap, ap₂, _∙_}
+use Prim.Native.Nat.{ℕ, _+_, _^_, _<_}
 use native.Mathlib.Decide.{ℕ-discrete}
 use lib.Bits.{bitAnd}
 use Rattle.numbers.specs.Bits.{bit}
@@ -22,7 +22,7 @@ use Rattle.expansions.proofs.Costs.{products-ext, literals-ext}
 use Rattle.expansions.proofs.ClassAnswers.{shows-line, class-answers-same}
 use Rattle.expansions.proofs.kronecker.Costs.{term-literals-ext}
 use Rattle.expansions.proofs.kronecker.Answers.{kronecker-answers-same}
-use Rattle.listings.specs.Listing.{cube, cubeLine, cubeLines, formFields, listingWith, listingAfter}
+use Rattle.listings.specs.Listing.{cube, cubeLine, cubeLines, formFields, listingWith}
 use Rattle.listings.specs.Kronecker.{letterByte, letterBytes, literalByte, kroneckerCube, kroneckerLine, kroneckerListing}
 use Rattle.listings.specs.AnswerListing.{IsAnswerListing, mixed, kronecker}
 use Rattle.listings.proofs.Characters.{descending-ext}

@@ -15,7 +15,6 @@ use Rattle.search.specs.inner.Answer.{answerExpansion}
 use Rattle.numbers.proofs.Tables.{at-whole}
 use Rattle.expansions.proofs.Costs.{products-le, literals-le}
 use Rattle.expansions.proofs.Answers.{answer-coefficient-zero, answer-choice-zero, answer-member, answer-minimal, answer-ext, answer-inverted-lt, answer-coefficient-lt, answer-choice-lt}
-use Rattle.search.specs.declared.expansion.Expansion.{Expansion}
 
 -- ---- the answer's places, in a table that holds all that are not 0
 

@@ -2,7 +2,7 @@
 use mathlib.Core.Path.{_≡_, _∙_}
 use mathlib.Core.Bool.{false, _&&_}
 use mathlib.Core.List.{List}
-use Prim.Native.Nat.{ℕ, _^_, _<_}
+use Prim.Native.Nat.{ℕ, _^_}
 use borrow.Author.Tests.{lt-ltb, eq-eqb}
 use lib.Dec.{ltb, eqb, ltb→lt, eqb→eq}
 use lib.ListN.{length}
