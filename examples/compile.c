@@ -7,8 +7,8 @@
  *
  * To build it, from the root of the repository:
  *
- *     rt staticlib capi
- *     gcc -std=c99 -Wall -Wextra -Iinclude examples/compile.c target/staticlib/libcapi.a -o target/compile
+ *     rt staticlib mipaldoz
+ *     gcc -std=c99 -Wall -Wextra -Iinclude examples/compile.c target/staticlib/libmipaldoz.a -o target/compile
  */
 #include "mipaldoz.h"
 

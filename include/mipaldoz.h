@@ -2,8 +2,8 @@
  * The calls of Mipaldoz for programs in C and C++: both transforms, the minimising call, the reading call, the text call and the fitter's
  * check of a listing.
  *
- *     rt staticlib capi                                          writes target/staticlib/libcapi.a
- *     cc -Iinclude program.c target/staticlib/libcapi.a          links it; no other library is needed
+ *     rt staticlib mipaldoz                                          writes target/staticlib/libmipaldoz.a
+ *     cc -Iinclude program.c target/staticlib/libmipaldoz.a          links it; no other library is needed
  *
  * docs/GUIDE.md says what a table text, a listing, the numbers n, m, k, M and i, the inversion mask, the kinds of k and the two families of
  * parts are, docs/SPECIFICATION.md gives the exact rules, and docs/CONTRACTS.md what is proved of each call. examples/compile.c is a whole

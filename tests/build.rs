@@ -14,15 +14,15 @@ fn variable(name: &str) -> PathBuf {
     PathBuf::from(env::var(name).unwrap_or_else(|_| panic!("cargo sets {name}")))
 }
 
-/// `libcapi.a` in the directory named by MIPALDOZ_STATICLIB, or in ../target/staticlib.
+/// `libmipaldoz.a` in the directory named by MIPALDOZ_STATICLIB, or in ../target/staticlib.
 fn link_calls() {
     println!("cargo:rerun-if-env-changed=MIPALDOZ_STATICLIB");
     let beside = variable("CARGO_MANIFEST_DIR").join("../target/staticlib");
     let directory = env::var("MIPALDOZ_STATICLIB").map_or(beside, PathBuf::from);
-    let library = directory.join("libcapi.a");
+    let library = directory.join("libmipaldoz.a");
     println!("cargo:rerun-if-changed={}", library.display());
     if library.exists() {
-        link(&directory, "capi");
+        link(&directory, "mipaldoz");
     } else {
         println!("cargo:warning=there is no {}: the calls cannot be linked", library.display());
     }

@@ -1,5 +1,5 @@
 //! The C header `include/mipaldoz.h`: its constants are the ones that the calls and the evaluator have, and
-//! its declarations are those of the functions that `crates/capi` exports.
+//! its declarations are those of the functions that `crates/mipaldoz` exports.
 
 use outside_cases::calls::{
     CheckAnswer, CompileAnswer, MinimiseAnswer, ReadAnswer, TransformAnswer,
@@ -61,7 +61,7 @@ fn in_c(parameter: &str) -> Vec<String> {
 
 #[test]
 fn declarations_are_those_of_the_exported_functions() {
-    let sources = read_dir(repository().join("crates/capi/src")).expect("the sources are there");
+    let sources = read_dir(repository().join("crates/mipaldoz/src")).expect("the sources are there");
     let mut exported = BTreeSet::new();
     for source in sources {
         let text = read_to_string(source.expect("an entry").path()).expect("a source is a text");
