@@ -32,8 +32,8 @@ impl Cursor {
         Cursor { at, line }
     }
 
-    // Past the tab here, on the same line.
-    pub fn past_tab(self) -> Cursor
+    // Past the separator here, on the same line.
+    pub fn past_separator(self) -> Cursor
         requires { ⌜ self .at + 1 < 2 ^ 64 ⌝ }
         ensures { λ r. ⌜ (r .at ≡ self .at + 1) × (r .line ≡ self .line) ⌝ }
     {

@@ -3,5 +3,6 @@
 // it is one written for what it says (proofs/FieldsRead, proofs/Cubes).
 pub mod cursor;
 pub mod heading;
+pub mod parts;
 pub mod values;
 pub mod words;

@@ -1,6 +1,7 @@
 // The fields of a line, which are parted by one tab, whether they are words, and the family that the first word says. A field is a part of its
 // line; a line comes without its byte 10.
-use crate::cursor::Cursor;
+use crate::parts::part;
+use crate::parts::part_count;
 use expansions::families::Family;
 ghost use mathlib.Core.Path.{_≡_};
 ghost use lib.ListN.{length};
@@ -34,36 +35,14 @@ pub fn same(field: &[u8], word: &[u8]) -> bool
 pub fn field_count(line: &[u8]) -> usize
     ensures { λ r. ⌜ r ≡ length (fields (now (line .entry))) ⌝ }
 {
-    let mut cursor = Cursor::new();
-    let mut count = 1;
-    loop {
-        let stop = cursor.seek(line, b'\t');
-        if stop.at == line.len() {
-            return count;
-        }
-        cursor = stop.past_tab();
-        count += 1;
-    }
+    part_count(line, b'\t')
 }
 
 // The field j of a line, counted from 0; empty where there is none.
 pub fn field(line: &[u8], j: usize) -> &[u8]
     ensures { λ r. ⌜ now r ≡ field j (now (line .entry)) ⌝ }
 {
-    let mut cursor = Cursor::new();
-    let mut left = j;
-    while 0 < left {
-        let stop = cursor.seek(line, b'\t');
-        if stop.at == line.len() {
-            return &line[..0];
-        }
-        cursor = stop.past_tab();
-        left -= 1;
-    }
-    let from = cursor.at;
-    let stop = cursor.seek(line, b'\t');
-    let to = stop.at;
-    &line[from..to]
+    part(line, b'\t', j)
 }
 
 // Whether a line has so many fields, the first of them the given word.

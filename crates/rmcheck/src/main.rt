@@ -1,83 +1,95 @@
 // The program `rmcheck TABLE LISTING`: it reads the first 8,192 bytes of each of two files and writes one line, the fitter's answer. The contract
-// of `print_check` states that line for every pair of inputs (`Print` in crates/fitter/specs/Print.antt). A missing argument, or a file that cannot
-// be read, is told on standard error, with the usage.
+// of `print_check` states that line for every pair of inputs (`Print` in crates/fitter/specs/Print.antt). A refusal is explained on standard error, by the
+// bytes that the contract of `explain` states (`sentence` in crates/refusal_words/specs/Sentences.antt). So are a missing argument and a file that cannot be
+// read told there.
 use fitter::print::print_check;
 use libc::STDERR_FILENO;
 use libc::STDOUT_FILENO;
+use program_files::arguments::argument_count;
+use program_files::sources::read_argument;
+use refusal_words::refusal::of_listing;
+use refusal_words::refusal::refusal_in;
+use refusal_words::sentence::explain;
 use text::print::Printed;
-ghost use mathlib.Core.Path.{_≡_};
-ghost use Prim.Native.Nat.{_≤_};
-ghost use lib.ListN.{length};
 
-// What was read of a file: whether it could be read, and how many bytes.
-struct Source {
-    readable: bool,
-    length: usize,
-}
-
-// Reads the first bytes of the file that argument i names. Where it cannot, it says why, and how the program is used.
-fn read_argument(i: usize, bytes: &mut [u8; Printed::INPUT_BYTES]) -> Source
-    ensures { λ r. ⌜ r .length ≤ length (now (bytes .exit)) ⌝ }
-{
-    let mut path = io::buffer();
-    let named = os::arg(i, &mut path);
-    if os::errno() != 0 {
-        os::fail(b"an argument is missing or too long");
-        return no_source();
-    }
-    let file = os::open_read(&path[..named]);
-    if file < 0 {
-        os::fail(&path[..named]);
-        return no_source();
-    }
-    let length = io::read_full(file, bytes);
-    if unreadable(file, length) {
-        os::fail(&path[..named]);
-        libc::close(file);
-        return no_source();
-    }
-    libc::close(file);
-    Source {
-        readable: true,
-        length,
-    }
-}
-
-// Whether reading failed where no byte came, as it does of a folder.
-fn unreadable(file: i32, length: usize) -> bool {
-    if length != 0 {
-        return false;
-    }
-    let mut next = [0u8; 1];
-    libc::read(file, &mut next) < 0
-}
-
-// Says how the program is used; nothing was read.
-fn no_source() -> Source
-    ensures { λ r. ⌜ r .length ≡ 0 ⌝ }
-{
+// Says how the program is used.
+fn usage() {
     io::write_all(STDERR_FILENO, b"usage: rmcheck TABLE LISTING\n");
-    Source {
-        readable: false,
-        length: 0,
+    io::write_all(
+        STDERR_FILENO,
+        b"Checks the file LISTING beside its table text, the file TABLE: writes `same`, `differs` and a point, `not of the class`,\n",
+    );
+    io::write_all(
+        STDERR_FILENO,
+        b"or `refused`, number, line, and explains a refusal on standard error. docs/GUIDE.md has each answer and each refusal.\n",
+    );
+}
+
+// Says which argument is missing, where `arguments` were given, and how the program is used.
+fn missing(arguments: usize) {
+    if arguments == 0 {
+        io::write_all(STDERR_FILENO, b"rmcheck: the argument TABLE is missing\n");
+    } else {
+        io::write_all(STDERR_FILENO, b"rmcheck: the argument LISTING is missing\n");
+    }
+    usage();
+}
+
+// Explains a refusal of a text on standard error.
+fn tell(name: &[u8], number: usize, line: usize, text: &[u8]) {
+    let said = explain(name, number, line, text);
+    let sentence = said.bytes;
+    let count = said.length;
+    io::write_all(STDERR_FILENO, &sentence[..count]);
+}
+
+// Writes the answer for a table text and a listing, and explains it where it is a refusal, of the one or of the other.
+fn answer(table_name: &[u8], text: &[u8], listing_name: &[u8], listing: &[u8]) {
+    let printed = print_check(text, listing);
+    let bytes = printed.bytes;
+    let length = printed.length;
+    io::write_all(STDOUT_FILENO, &bytes[..length]);
+    let refusal = refusal_in(&bytes[..length]);
+    if refusal.number == 0 {
+        return;
+    }
+    if of_listing(refusal.number) {
+        tell(listing_name, refusal.number, refusal.line, listing);
+    } else {
+        tell(table_name, refusal.number, refusal.line, text);
     }
 }
 
 fn main() {
+    let arguments = argument_count(2);
+    if 2 < arguments {
+        usage();
+        return;
+    }
+    if arguments < 2 {
+        missing(arguments);
+        return;
+    }
+    let mut table_name = io::buffer();
+    let mut listing_name = io::buffer();
     let mut text = [0u8; Printed::INPUT_BYTES];
     let mut listing = [0u8; Printed::INPUT_BYTES];
-    let first = read_argument(1, &mut text);
+    let first = read_argument(1, &mut table_name, &mut text);
     if !first.readable {
         return;
     }
-    let second = read_argument(2, &mut listing);
+    let second = read_argument(2, &mut listing_name, &mut listing);
     if !second.readable {
         return;
     }
-    let of_text = first.length;
-    let of_listing = second.length;
-    let printed = print_check(&text[..of_text], &listing[..of_listing]);
-    let bytes = printed.bytes;
-    let length = printed.length;
-    io::write_all(STDOUT_FILENO, &bytes[..length]);
+    let table_named = first.named;
+    let text_length = first.length;
+    let listing_named = second.named;
+    let listing_length = second.length;
+    answer(
+        &table_name[..table_named],
+        &text[..text_length],
+        &listing_name[..listing_named],
+        &listing[..listing_length],
+    );
 }

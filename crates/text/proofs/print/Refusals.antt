@@ -17,7 +17,7 @@ use Rattle.listings.proofs.Meaning.{Small, plain-numbers, numbers-said, heading
 
 -- ---- the line `refused`
 
-plain-refused : Plain (bytes "refused")
+pub plain-refused : Plain (bytes "refused")
 unfolding bytes
 plain-refused = (lit< tt, (lit< tt, (lit< tt, (lit< tt, (lit< tt, (lit< tt, (lit< tt, tt)))))))
 

@@ -1,78 +1,15 @@
--- `field_count` meets its contract. The invariant: the fields of the line are those counted and those after the one at the cursor.
-use mathlib.Core.Path.{_≡_, ap}
-use Prim.Native.Nat.{_+_, _≤_, _-_}
-use native.Mathlib.Omega.{arith}
+-- `field_count` meets its contract: the fields of a line are its parts at tabs.
 use borrow.Author.Needs.{needs}
-use lib.ListN.{length, drop}
-use Rattle.listings.specs.Parts.{parts, fields}
-use Rattle.listings.specs.inner.Stops.{stop}
-use Rattle.listings.proofs.Parts.{stop-le, others-last, others-next}
+use Rattle.listings.specs.Parts.{fields}
 use Rattle.fields.proofs.words.field_count.Statement.{statement}
 use Rattle.fields.proofs.words.field_count.Tie as tie
 
-abbrev Inv-loop : tie.InvT-loop
-Inv-loop line cursor₀ count₀ cursor count =
-    (cursor .at ≤ length line)
-    × (count ≤ cursor .at + 1)
-    × (length (fields line) ≡ count + length (parts 9 (drop (cursor .at) line) .others))
+part-count-requires : tie.Need-part-count-requires
+part-count-requires c κs = search needs
 
-abbrev μ-loop : tie.MeasureT-loop
-μ-loop line cursor₀ count₀ cursor count = length line - cursor .at
-
-new-requires : tie.Need-new-requires Inv-loop μ-loop
-new-requires c κs = search needs
-
-loop-holds : tie.Need-loop-holds Inv-loop μ-loop
+returns : tie.Need-returns
 unfolding fields
-loop-holds c = rw (c .new .ensures .0) (omega arith, omega arith, omega arith)
-
-seek-requires : tie.Need-seek-requires Inv-loop μ-loop
-seek-requires c κs = search needs
-
-returns : tie.Need-returns Inv-loop μ-loop
-returns c =
-    let a = c .before .before .before .before .before .before .args in
-    let l = c .before .before .before .loop in
-    omega (arith, ap length (others-last 9 (a .line .now) (l .cursor .at) (omega arith)))
-
-past-tab-requires : tie.Need-past-tab-requires Inv-loop μ-loop
-past-tab-requires c κs =
-    let a = c .before .before .before .before .before .before .args in
-    let l = c .before .before .before .loop in
-    omega (arith, stop-le 9 (a .line .now) (l .cursor .at) (l .inv .0))
-
-add-count : tie.Need-add-count Inv-loop μ-loop
-add-count c =
-    let a = c .before .before .before .before .before .before .before .args in
-    let l = c .before .before .before .before .loop in
-    omega (arith, stop-le 9 (a .line .now) (l .cursor .at) (l .inv .0))
-
-loop-less : tie.Need-loop-less Inv-loop μ-loop
-loop-less c =
-    let a = c .before .before .before .before .before .before .before .args in
-    let l = c .before .before .before .before .loop in
-    omega (arith, stop-le 9 (a .line .now) (l .cursor .at) (l .inv .0))
-
-loop-again : tie.Need-loop-again Inv-loop μ-loop
-loop-again c =
-    let a = c .before .before .before .before .before .before .before .args in
-    let l = c .before .before .before .before .loop in
-    let s = a .line .now in
-    let inside = stop-le 9 s (l .cursor .at) (l .inv .0) in
-    let next : c .past-tab .result .at ≡ stop 9 s (l .cursor .at) + 1 = omega arith in
-    (omega arith, omega arith, rw next (omega (arith, ap length (others-next 9 s (l .cursor .at) (omega arith)))))
+returns c = search needs
 
 pub field-count-spec : {M : Type 1} → statement M
-field-count-spec =
-    tie.close
-    (tie.spec
-    Inv-loop
-    μ-loop
-    new-requires
-    loop-holds
-    seek-requires
-    returns
-    past-tab-requires
-    add-count
-    loop-less
-    loop-again)
+field-count-spec = tie.close (tie.spec part-count-requires returns)

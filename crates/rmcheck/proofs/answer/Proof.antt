@@ -1,0 +1,63 @@
+-- `answer` is safe: what is printed lies within the bytes that `print_check` hands out.
+use mathlib.Core.Path.{sym}
+use lib.Seq.{length-take-le}
+use borrow.Author.Needs.{needs}
+use Rattle.rmcheck.proofs.answer.Statement.{statement}
+use Rattle.rmcheck.proofs.answer.Tie as tie
+
+print-check-requires : tie.Need-print-check-requires
+print-check-requires c κs = search needs
+
+array-share-prefix-bytes : tie.Need-array-share-prefix-bytes
+array-share-prefix-bytes c = search needs
+
+slice-aggregate-write-all : tie.Need-slice-aggregate-write-all
+slice-aggregate-write-all c = sym (length-take-le _ _ (c .before .before .print-check .ensures .within))
+
+write-all-requires : tie.Need-write-all-requires
+write-all-requires c κs = search needs
+
+array-share-prefix-bytes-2 : tie.Need-array-share-prefix-bytes-2
+array-share-prefix-bytes-2 c = search needs
+
+slice-aggregate-refusal-in : tie.Need-slice-aggregate-refusal-in
+slice-aggregate-refusal-in c = sym (length-take-le _ _ (c .before .before .before .before .print-check .ensures .within))
+
+refusal-in-requires : tie.Need-refusal-in-requires
+refusal-in-requires c κs = search needs
+
+returns : tie.Need-returns
+returns c = search needs
+
+of-listing-requires : tie.Need-of-listing-requires
+of-listing-requires c κs = search needs
+
+tell-requires : tie.Need-tell-requires
+tell-requires c κs = search needs
+
+tell-requires-2 : tie.Need-tell-requires-2
+tell-requires-2 c κs = search needs
+
+returns-2 : tie.Need-returns-2
+returns-2 c = search needs
+
+returns-3 : tie.Need-returns-3
+returns-3 c = search needs
+
+pub answer-spec : {M : Type 1} → statement M
+answer-spec =
+    tie.close
+    (tie.spec
+    print-check-requires
+    array-share-prefix-bytes
+    slice-aggregate-write-all
+    write-all-requires
+    array-share-prefix-bytes-2
+    slice-aggregate-refusal-in
+    refusal-in-requires
+    returns
+    of-listing-requires
+    tell-requires
+    tell-requires-2
+    returns-2
+    returns-3)
