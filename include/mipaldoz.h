@@ -1,29 +1,34 @@
 /*
- * The calls of Mipaldoz for programs in C and C++: both transforms, the minimising call, the reading call, the text call and the fitter's
- * check of a listing.
+ * The calls of Mipaldoz for programs in C (C99) and C++ (C++98): both transforms, the minimising call, the reading
+ * call, the text call and the fitter's check of a listing.
  *
  *     rt staticlib mipaldoz                                          writes target/staticlib/libmipaldoz.a
  *     cc -Iinclude program.c target/staticlib/libmipaldoz.a          links it; no other library is needed
  *
- * docs/GUIDE.md says what a table text, a listing, the numbers n, m, k, M and i, the inversion mask, the kinds of k and the two families of
- * parts are, docs/SPECIFICATION.md gives the exact rules, and docs/CONTRACTS.md what is proved of each call. examples/compile.c is a whole
- * program.
+ * docs/CALLS.md shows how to build and to call, docs/GUIDE.md says what a table text, a listing and their numbers are,
+ * docs/SPECIFICATION.md gives the exact rules, and docs/PROMISES.md what is proved of each call. examples/compile.c and
+ * examples/check.c are whole programs.
  *
- * Buffers. A buffer is passed as a pointer to its first byte and then its length in bytes. The caller sees to three things, which no call
- * can check:
+ * Buffers. A buffer is passed as a pointer to its first byte and then its length in bytes. The caller sees to three
+ * things, which no call can check:
  *   - the length is true: that many bytes may be read there and, where the pointer is not to const, written;
  *   - no two buffers of one call overlap, and none overlaps `answer`;
  *   - no pointer is null, also where the length is 0.
  * Everything else is judged by the call: every number n, m, k and w, every length and every byte may be passed.
  *
- * Answers. Each call returns its answer in the array `answer` and writes all of it, whatever it held. answer[MIPALDOZ_NUMBER] is 0
- * where the call was carried out; else it is the number of the refusal, answer[MIPALDOZ_LINE] is its line, and the rest is 0. Lines count
- * from 1; the line is 0 where no text was lent, and for the refusals 7 to 10. For 11 and 12 it is the line in the listing.
+ * Answers. The answer of a call is a few numbers. The first is 0 where the call was carried out; else it is the number
+ * of the refusal, the second is its line, and the rest is 0. Lines count from 1; the line is 0 where no text was lent,
+ * and for the refusals 7 to 10. For 11 and 12 it is the line in the listing.
+ *
+ * Two forms of each call. mipaldoz_compile, and so each function that the library exports, writes its answer into the
+ * array `answer`, all of it, whatever it held; enum mipaldoz_answer says which number is which. mipaldoz_compile_call,
+ * and so each inline function at the end of this header, takes the same but `answer`, and returns a struct with a
+ * member for each number.
  *
  * Under a refusal no byte of a lent buffer changes. `answer` is the return value and not such a buffer: it changes.
  *
- * The calls take no memory from the heap, keep nothing from one call to the next, read and write no file, and end on every input. Several
- * threads may call them at the same time, each with buffers of its own.
+ * The calls take no memory from the heap, keep nothing from one call to the next, read and write no file, and end on
+ * every input. Several threads may call them at the same time, each with buffers of its own.
  */
 #ifndef MIPALDOZ_H
 #define MIPALDOZ_H
@@ -51,7 +56,7 @@ extern "C" {
 #define MIPALDOZ_COMPILE_ANSWER 3
 #define MIPALDOZ_CHECK_ANSWER 4
 
-/* Which number of an answer is which. */
+/* Which number of an answer is which. Those of different calls share places: the structs below keep them apart. */
 enum mipaldoz_answer {
     /* of every answer */
     MIPALDOZ_NUMBER = 0, /* 0, or the number of the refusal: enum mipaldoz_refusal */
@@ -231,5 +236,165 @@ void mipaldoz_check(const uint8_t *text, size_t text_length,
 #ifdef __cplusplus
 }
 #endif
+
+/*
+ * The same calls, their answers returned in structs. A member is the number that enum mipaldoz_answer has under the
+ * member's name.
+ */
+
+struct mipaldoz_forward_result {
+    uint64_t number, line;
+};
+
+static inline struct mipaldoz_forward_result mipaldoz_forward_call(
+    size_t n, size_t m, size_t w,
+    const uint8_t *table, size_t table_length,
+    uint8_t *coefficients, size_t coefficients_length)
+{
+    uint64_t answer[MIPALDOZ_FORWARD_ANSWER];
+    struct mipaldoz_forward_result result;
+
+    mipaldoz_forward(n, m, w, table, table_length, coefficients, coefficients_length, answer);
+    result.number = answer[MIPALDOZ_NUMBER];
+    result.line = answer[MIPALDOZ_LINE];
+    return result;
+}
+
+struct mipaldoz_backward_result {
+    uint64_t number, line;
+};
+
+static inline struct mipaldoz_backward_result mipaldoz_backward_call(
+    size_t n, size_t m, size_t w,
+    const uint8_t *coefficients, size_t coefficients_length,
+    uint8_t *table, size_t table_length)
+{
+    uint64_t answer[MIPALDOZ_BACKWARD_ANSWER];
+    struct mipaldoz_backward_result result;
+
+    mipaldoz_backward(n, m, w, coefficients, coefficients_length, table, table_length, answer);
+    result.number = answer[MIPALDOZ_NUMBER];
+    result.line = answer[MIPALDOZ_LINE];
+    return result;
+}
+
+struct mipaldoz_minimise_result {
+    uint64_t number, line, mixed, fixed, products, literals, inverted;
+};
+
+static inline struct mipaldoz_minimise_result mipaldoz_minimise_call(
+    size_t n, size_t m, size_t k,
+    const uint8_t *table, size_t table_length,
+    uint8_t *coefficients, size_t coefficients_length,
+    uint8_t *blocks, size_t blocks_length)
+{
+    uint64_t answer[MIPALDOZ_MINIMISE_ANSWER];
+    struct mipaldoz_minimise_result result;
+
+    mipaldoz_minimise(n, m, k, table, table_length, coefficients, coefficients_length, blocks, blocks_length, answer);
+    result.number = answer[MIPALDOZ_NUMBER];
+    result.line = answer[MIPALDOZ_LINE];
+    result.mixed = answer[MIPALDOZ_MIXED];
+    result.fixed = answer[MIPALDOZ_FIXED];
+    result.products = answer[MIPALDOZ_PRODUCTS];
+    result.literals = answer[MIPALDOZ_LITERALS];
+    result.inverted = answer[MIPALDOZ_INVERTED];
+    return result;
+}
+
+struct mipaldoz_read_result {
+    uint64_t number, line, inputs, outputs, mixed_inputs, kind, family;
+};
+
+static inline struct mipaldoz_read_result mipaldoz_read_call(
+    const uint8_t *text, size_t text_length,
+    uint8_t *table, size_t table_length)
+{
+    uint64_t answer[MIPALDOZ_READ_ANSWER];
+    struct mipaldoz_read_result result;
+
+    mipaldoz_read(text, text_length, table, table_length, answer);
+    result.number = answer[MIPALDOZ_NUMBER];
+    result.line = answer[MIPALDOZ_LINE];
+    result.inputs = answer[MIPALDOZ_INPUTS];
+    result.outputs = answer[MIPALDOZ_OUTPUTS];
+    result.mixed_inputs = answer[MIPALDOZ_MIXED_INPUTS];
+    result.kind = answer[MIPALDOZ_KIND];
+    result.family = answer[MIPALDOZ_FAMILY];
+    return result;
+}
+
+struct mipaldoz_compile_result {
+    uint64_t number, line, length;
+};
+
+static inline struct mipaldoz_compile_result mipaldoz_compile_call(
+    const uint8_t *text, size_t text_length,
+    uint8_t *output, size_t output_length)
+{
+    uint64_t answer[MIPALDOZ_COMPILE_ANSWER];
+    struct mipaldoz_compile_result result;
+
+    mipaldoz_compile(text, text_length, output, output_length, answer);
+    result.number = answer[MIPALDOZ_NUMBER];
+    result.line = answer[MIPALDOZ_LINE];
+    result.length = answer[MIPALDOZ_LENGTH];
+    return result;
+}
+
+struct mipaldoz_check_result {
+    uint64_t number, line, outcome, point;
+};
+
+static inline struct mipaldoz_check_result mipaldoz_check_call(
+    const uint8_t *text, size_t text_length,
+    const uint8_t *listing, size_t listing_length)
+{
+    uint64_t answer[MIPALDOZ_CHECK_ANSWER];
+    struct mipaldoz_check_result result;
+
+    mipaldoz_check(text, text_length, listing, listing_length, answer);
+    result.number = answer[MIPALDOZ_NUMBER];
+    result.line = answer[MIPALDOZ_LINE];
+    result.outcome = answer[MIPALDOZ_OUTCOME];
+    result.point = answer[MIPALDOZ_POINT];
+    return result;
+}
+
+/* What a refusal says, in words: those of crates/refusal_words/specs/Sentences.antt. */
+static inline const char *mipaldoz_refusal_words(uint64_t number)
+{
+    switch (number) {
+    case MIPALDOZ_CARRIED_OUT:
+        return "carried out";
+    case MIPALDOZ_BAD_LINE:
+        return "the line breaks its grammar";
+    case MIPALDOZ_BAD_INPUTS:
+        return "n, the number of inputs, is not 1 to 8";
+    case MIPALDOZ_BAD_OUTPUTS:
+        return "m, the number of outputs, is not 1 to 8";
+    case MIPALDOZ_BAD_MIXED:
+        return "k, the number of mixed inputs, is above its limit or above n";
+    case MIPALDOZ_BAD_POINT:
+        return "the point is 2^n or more, or not above the one before";
+    case MIPALDOZ_BAD_END:
+        return "the text stops before its end line, or goes on after it";
+    case MIPALDOZ_BAD_POLARITY:
+        return "the polarity w is 2^n or more";
+    case MIPALDOZ_BAD_LENGTH:
+        return "a buffer has another length than the call states";
+    case MIPALDOZ_BAD_BYTE:
+        return "a byte has a bit at m or above set";
+    case MIPALDOZ_SHORT_OUTPUT:
+        return "the output buffer is shorter than the listing";
+    case MIPALDOZ_BAD_LISTING:
+        return "the line breaks the grammar of a listing, its term is not above the one before, "
+               "or the listing ends wrongly";
+    case MIPALDOZ_OTHER_LISTING:
+        return "the listing's family, n, m or k is not the table's, or its counts are not those of its lines";
+    default:
+        return "no refusal has this number";
+    }
+}
 
 #endif
