@@ -18,3 +18,4 @@ pub mod program;
 pub mod seeded;
 pub mod text;
 pub mod timing;
+pub mod words;

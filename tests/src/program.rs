@@ -27,10 +27,22 @@ pub fn run(pieces: &[&[u8]], between: impl Fn()) -> Vec<u8> {
 
 /// The same for the program at this path.
 pub fn run_at(path: &Path, pieces: &[&[u8]], between: impl Fn()) -> Vec<u8> {
+    run_with(path, &[], pieces, between).stdout
+}
+
+/// What `rmform` leaves when it is given these arguments and this standard input.
+pub fn run_form(arguments: &[&Path], input: &[u8]) -> Output {
+    run_with(&path(), arguments, &[input], || ())
+}
+
+/// What a program leaves when it is given these arguments and its standard input in these pieces.
+fn run_with(path: &Path, arguments: &[&Path], pieces: &[&[u8]], between: impl Fn()) -> Output {
     let mut command = Command::new(path);
     let mut program = command
+        .args(arguments)
         .stdin(Stdio::piped())
         .stdout(Stdio::piped())
+        .stderr(Stdio::piped())
         .spawn()
         .unwrap_or_else(|error| panic!("{}: {error}", path.display()));
     let mut input = program.stdin.take().expect("standard input is piped");
@@ -40,7 +52,7 @@ pub fn run_at(path: &Path, pieces: &[&[u8]], between: impl Fn()) -> Vec<u8> {
         between();
     }
     drop(input);
-    ended(program.wait_with_output().expect("the program ends")).stdout
+    ended(program.wait_with_output().expect("the program ends"))
 }
 
 /// What a program left that ended by itself, whatever its exit status is.

@@ -12,6 +12,8 @@ use outside_cases::seeded::listings::any_listing;
 use outside_cases::seeded::tables::longest_listing_table;
 use outside_cases::seeded::texts::{damaged_text, sound_text, with_other_k, with_other_word};
 use outside_cases::text::Design;
+use outside_cases::words::{explained, refusal};
+use std::path::Path;
 
 /// What the program writes for a table text and a listing.
 fn written(text: &[u8], listing: &[u8]) -> Vec<u8> {
@@ -23,10 +25,18 @@ fn written(text: &[u8], listing: &[u8]) -> Vec<u8> {
 #[track_caller]
 fn check_files(text: &[u8], listing: &[u8]) {
     let judged = |bytes: &[u8]| bytes[..bytes.len().min(JUDGED_BYTES)].to_vec();
-    let wanted = printed(&judged(text), &judged(listing));
+    let (judged_text, judged_listing) = (judged(text), judged(listing));
+    let wanted = printed(&judged_text, &judged_listing);
+    let files = [Written::new(text), Written::new(listing)];
+    let output = run_check(&[files[0].path(), files[1].path()]);
+    let of_listing = refusal(&wanted).is_some_and(|(number, _)| number > 10);
+    let (file, refused) =
+        if of_listing { (&files[1], &judged_listing) } else { (&files[0], &judged_text) };
+    let said = explained(&wanted, file.path().to_str().expect("a name in text"), refused);
     let shown = |bytes: &[u8]| bytes.escape_ascii().to_string();
-    let found = shown(&written(text, listing));
-    assert_eq!(found, shown(&wanted), "{}\n{}", shown(text), shown(listing));
+    let found = [output.stdout, output.stderr].map(|bytes| shown(&bytes));
+    let wanted = [shown(&wanted), shown(said.as_bytes())];
+    assert_eq!(found, wanted, "{}\n{}", shown(text), shown(listing));
 }
 
 /// The four lines, byte for byte.
@@ -114,26 +124,32 @@ fn files_at_the_limit() {
     }
 }
 
-/// A missing argument or file, and a folder, is told on standard error, and nothing is written on standard
-/// output.
+/// A missing argument is named on standard error, before the usage, and so is a file that cannot be read. With
+/// `--help`, `-h` or an argument too many there is the usage alone. Standard output has nothing.
 #[test]
 fn missing_arguments_and_files() {
     let files = [Written::new(&bytes(EXAMPLE)), Written::new(&bytes(EXAMPLE_LISTING))];
     let [text, listing] = [files[0].path(), files[1].path()];
-    let missing = text.with_extension("missing");
+    let missing = &text.with_extension("missing");
     let folder = text.parent().expect("a folder");
-    for arguments in [
-        &[][..],
-        &[text],
-        &[text, &missing],
-        &[&missing, listing],
-        &[&missing, &missing],
-        &[&missing],
-        &[text, folder],
-        &[folder, listing],
+    let (help, short) = (Path::new("--help"), Path::new("-h"));
+    let usage = "usage: rmcheck TABLE LISTING\n";
+    let named = |path: &Path| format!("{}: ", path.display());
+    for (arguments, start, lines) in [
+        (&[][..], "rmcheck: the argument TABLE is missing\n", 4),
+        (&[text], "rmcheck: the argument LISTING is missing\n", 4),
+        (&[missing], "rmcheck: the argument LISTING is missing\n", 4),
+        (&[help], usage, 3),
+        (&[text, short], usage, 3),
+        (&[text, listing, listing], usage, 3),
+        (&[text, missing], &named(missing), 1),
+        (&[missing, listing], &named(missing), 1),
+        (&[text, folder], &named(folder), 1),
+        (&[folder, listing], &named(folder), 1),
     ] {
         let output = run_check(arguments);
+        let said = String::from_utf8(output.stderr).expect("words");
         assert_eq!(output.stdout, b"", "{arguments:?}");
-        assert!(!output.stderr.is_empty(), "{arguments:?}");
+        assert!(said.starts_with(start) && said.lines().count() == lines, "{arguments:?}: {said}");
     }
 }

@@ -177,15 +177,12 @@ fn words_in_c(header: &str) -> Words {
     cases.split("case ").skip(1).map(case).collect()
 }
 
-/// The words of the definition: clauses `refusalWords NUMBER = bytes "WORDS"`, a variable for every other number.
+/// The words of the definition: the strings of `wordsInOrder` from 0 on, and of `refusalWords` for every other number.
 fn words_defined(definition: &str) -> Words {
-    let clause = |one: &str| {
-        let (pattern, words) = one.split_once(" = bytes \"")?;
-        let number = if pattern == "zero" { Some(0) } else { pattern.parse().ok() };
-        Some((number, words.split_once('"')?.0.to_string()))
-    };
-    let clauses = definition.lines().filter_map(|line| line.strip_prefix("refusalWords "));
-    clauses.filter_map(clause).collect()
+    let in_order = between(definition, "\nwordsInOrder =\n", "\n    ∷ []\n");
+    let numbered = in_order.lines().enumerate().map(|(number, line)| (Some(number), strings(line)));
+    let other = between(definition, "\nrefusalWords number = getD wordsInOrder number ", "\n");
+    numbered.chain([(None, strings(other))]).collect()
 }
 
 /// The words in Rust: arms `NUMBER => "WORDS"`.

@@ -3,7 +3,7 @@
 use outside_cases::class::Class;
 use outside_cases::family::Family;
 use outside_cases::marked::{EXAMPLE, accepted, bytes, refused};
-use outside_cases::program::{JUDGED_BYTES, run};
+use outside_cases::program::{JUDGED_BYTES, Written, run, run_form};
 use outside_cases::seeded::Seeded;
 use outside_cases::seeded::tables::{
     longest_free_listing_table, longest_listing_table, random_table,
@@ -13,14 +13,20 @@ use outside_cases::seeded::texts::{
     with_other_k, with_other_word,
 };
 use outside_cases::text::{Design, printed};
+use outside_cases::words::explained;
+use std::path::Path;
 use std::thread::sleep;
 use std::time::Duration;
 
-/// Compares what the program writes with what it should write.
+/// Compares what the program writes with what it should write, on standard output and on standard error.
 fn check(input: &[u8], wanted: &[u8]) {
-    let written = run(&[input], || ());
+    let output = run_form(&[], input);
+    let judged = &input[..input.len().min(JUDGED_BYTES)];
+    let said = explained(wanted, "standard input", judged);
     let shown = |bytes: &[u8]| bytes.escape_ascii().to_string();
-    assert_eq!(shown(&written), shown(wanted), "for {} bytes: {}", input.len(), shown(input));
+    let found = [output.stdout, output.stderr].map(|bytes| shown(&bytes));
+    let wanted = [shown(wanted), shown(said.as_bytes())];
+    assert_eq!(found, wanted, "for {} bytes: {}", input.len(), shown(input));
 }
 
 /// Compares with the evaluator, which is given what the program judges.
@@ -140,5 +146,74 @@ fn input_in_pieces() {
         let (first, second) = text.split_at(place);
         let written = run(&[first, second], || sleep(Duration::from_millis(20)));
         assert_eq!(written, printed(&text), "cut at {place}");
+    }
+}
+
+/// Texts that show a cause, each with the words that tell it.
+#[test]
+fn causes() {
+    for (text, words) in [
+        (&b"table\t3\t1\t1\non 3\t1\nend\n"[..], "blank"),
+        (b"table\t3\t1\t1\r\non\t3\t1\r\nend\r\n", "carriage return"),
+        (b"table\t3\t1\t1\non\t3\t1\t0\nend\n", "too many fields"),
+        (b"table\t3\t1\t1\non\t110\t1\nend\n", "in binary"),
+        (b"table\t4\t1\t1\non\t0110\t1\nend\n", "in binary"),
+        (b"table\t8\t1\t1\non\t11111111\t1\nend\n", "in binary"),
+        (b"table\t3\t1\t1\non\t3\t1\nend", "no line end"),
+    ] {
+        let output = run_form(&[], text);
+        let said = String::from_utf8(output.stderr).expect("words");
+        assert!(said.contains(&format!("; it has a {words}")) || said.contains(words), "{said}");
+        check_judged(text);
+    }
+    for text in [
+        &b"table\t9\t1\t1\nend\n"[..],
+        b"table\t4\t1\t1\non\t12\t1\non\t11\t1\nend\n",
+        b"table\t1\t1\t1\non\t1\t1\non\t0\t1\nend\n",
+        b"table\t9\t1\t1\non\t000000001\t1\nend\n",
+        b"",
+    ] {
+        let said = String::from_utf8(run_form(&[], text).stderr).expect("words");
+        assert!(!said.is_empty() && !said.contains(';'), "{said}");
+        check_judged(text);
+    }
+}
+
+/// The file that an argument names is compiled, and a refusal names it.
+#[test]
+fn a_file_by_name() {
+    for text in [&bytes(EXAMPLE)[..], b"table\t2\t1\t1\non\t4\t1\n", b"", &[b'x'; 10_000]] {
+        let file = Written::new(text);
+        let name = file.path().to_str().expect("a name in text");
+        let output = run_form(&[file.path()], b"table\t1\t1\t0\nend\n");
+        let judged = &text[..text.len().min(JUDGED_BYTES)];
+        assert_eq!(output.stdout, printed(judged));
+        let said = explained(&output.stdout, name, judged);
+        assert_eq!(String::from_utf8_lossy(&output.stderr), said);
+    }
+}
+
+/// With `--help`, `-h` or an argument too many the usage has three lines on standard error, and nothing is read; a
+/// file that cannot be read is named there. Standard output has nothing.
+#[test]
+fn usage_and_missing_files() {
+    let file = Written::new(&bytes(EXAMPLE));
+    let missing = file.path().with_extension("missing");
+    let folder = file.path().parent().expect("a folder");
+    let (help, short) = (Path::new("--help"), Path::new("-h"));
+    for arguments in
+        [&[help][..], &[short], &[file.path(), file.path()], &[help, file.path()], &[short, help]]
+    {
+        let output = run_form(arguments, &bytes(EXAMPLE));
+        let said = String::from_utf8(output.stderr).expect("words");
+        assert_eq!(output.stdout, b"", "{arguments:?}");
+        assert!(said.starts_with("usage: rmform [FILE]\n") && said.lines().count() == 3, "{said}");
+    }
+    for path in [&missing, folder, Path::new("")] {
+        let output = run_form(&[path], &bytes(EXAMPLE));
+        let said = String::from_utf8(output.stderr).expect("words");
+        assert_eq!(output.stdout, b"", "{}", path.display());
+        let named = said.starts_with(&format!("{}: ", path.display()));
+        assert!(named && said.lines().count() == 1, "{said}");
     }
 }
