@@ -18,7 +18,7 @@ literal (suc w) x = 1 - x
 unfoldable pub LiteralsTrue : ℕ → ℕ → ℕ → Type 0
 LiteralsTrue t w p = (i : ℕ) → bit i t ≡ 1 → literal (bit i w) (bit i p) ≡ 1
 
--- LiteralsTrue as a test on masks: p differs from the polarity w at each input of the term t (proofs/Terms, `holds-words`)
+-- LiteralsTrue as a test on masks: p differs from the polarity w at each input of the term t (proofs/Terms, `holds-words`). "Term 0 is the constant 1."
 unfoldable pub holds : ℕ → ℕ → ℕ → Bool
 holds t w p = inside t (bitXor p w)
 

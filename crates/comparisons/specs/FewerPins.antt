@@ -30,7 +30,7 @@ MeansChosen fewer d t s = reading fewer ≡ given (chosenDesign s d) (chosenTabl
 abbrev pub HasLeastCost : Design → List ℕ → Type 0
 HasLeastCost d t = HasLeast (d .n) (d .family) (d .kind) (at t)
 
--- W-206 of a text that is accepted, with the design d and the table t, and of a choice s of its outputs
+-- W-206, "Fewer pins, no dearer", "for any accepted table": of a text that is accepted, with the design d and the table t, and of a choice s of its outputs
 pub record FewerPins (text : List ℕ) (d : Design) (t : List ℕ) (s : ℕ) : Type 0 where
   -- the chosen outputs are a table that is accepted
   pub accepted : Accepted (chosenDesign s d) (chosenTable (d .m) s t)

@@ -26,7 +26,7 @@ pub record OpenedOut (n M y x : ℕ) : Type 0 where
   pub below : x < 2 ^ n
 
 -- j and r are the block and the place of x, a point or a term: "the point's bits outside M and in M, each closed up lowest first", an input
--- being outside M where it is not in M; joined they give x back; and whichever block and place are joined to x, they are these
+-- being outside M where it is not in M; "the two joined give the point back"; and whichever block and place are joined to x, they are these
 pub record IsSplit (n M x j r : ℕ) : Type 0 where
   pub others : (i : ℕ) → i < n → bit i (outside n M) ≡ 1 - bit i M
   pub block : ClosedUp n (outside n M) x j

@@ -8,7 +8,7 @@ unfoldable pub counted : ℕ → ℕ → ℕ
 counted zero x = 0
 counted (suc c) x = x
 
--- "Products are the terms with c[t] not 0", each counted once for all outputs
+-- "Products are the terms with c[t] not 0", each counted once: "A product used by several outputs counts as a single product."
 unfoldable pub products : ℕ → (ℕ → ℕ) → ℕ
 products n c = sumBelow (2 ^ n) (λ t. counted (c t) 1)
 

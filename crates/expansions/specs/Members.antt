@@ -14,7 +14,7 @@ use Rattle.expansions.specs.declared.kinds.Class.the-variants.{Block, Fr
 use Rattle.expansions.specs.Classes.{choices, placePolarity, placeChoice}
 use Rattle.expansions.specs.Costs.{counted}
 
--- the block of the term t: its bits "at the inputs outside M, closed up, lowest first"
+-- the block of the term t: its bits "at the inputs outside M, closed up, lowest first"; "A term t belongs to block j when j is t without the bits of M."
 abbrev pub block : ℕ → ℕ → ℕ → ℕ
 block n M t = gather n (outside n M) t
 
@@ -38,7 +38,7 @@ Shared Block n M w = (s t : ℕ) → s < 2 ^ n → t < 2 ^ n → block n M s ≡
 Shared Free n M w = Unit
 
 -- w t are polarities of the terms t of an expansion of the class with the mixed set M and the fixed polarity i: "Its literals outside M follow i". For the
--- free class this is Definition 1 of document 003, any polarity over M for each term
+-- free class this is Definition 1 of document 003, which "lets every literal of a mixed input choose its polarity term by term"
 pub record InClass (C : Class) (n k M i : ℕ) (w : ℕ → ℕ) : Type 0 where
   pub pair : IsPair n k M i
   pub within : (t : ℕ) → t < 2 ^ n → w t < 2 ^ n

@@ -14,7 +14,7 @@ use Rattle.expansions.specs.kronecker.Letters.{IsKind, KroneckerGives}
 use Rattle.expansions.specs.kronecker.Costs.{kroneckerLiterals}
 
 -- an expansion of the class that the kind of k selects, with any coefficients and, but for `K`, any inversion mask v, that gives the table f; w t is the
--- polarity of the term t, and p and l are its products and its literals
+-- polarity of the term t, and p and l are its products and its literals. "rivals may choose inverters too"; "every rival of the free class at that field"
 pub data Rival (n : ℕ) (f : ℕ → ℕ) : Kind → (p l : ℕ) → Type 0 where
   mixed : (C : Class) (k v M i : ℕ) (w c : ℕ → ℕ) → InClass C n k M i w → Gives n v w c f → Rival n f (Mixed C k) (products n c) (literals n c)
   kronecker : (letters c : ℕ → ℕ) → IsKind n letters → KroneckerGives n letters c f → Rival n f Kronecker (products n c) (kroneckerLiterals n letters c)

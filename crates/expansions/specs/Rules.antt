@@ -9,7 +9,7 @@ use Rattle.expansions.specs.Costs.{counted}
 
 -- ---- in words
 
--- what a family compares first. Family one: "fewest products". Family two: "4 × products + literals"
+-- what a family compares first. Family one: "fewest products", "Texts that begin `table` keep products first." Family two: "4 × products + literals"
 abbrev pub costOf : Family → (p l : ℕ) → ℕ
 costOf One p l = p
 costOf Two p l = 4 * p + l
@@ -27,7 +27,7 @@ NoDearer F p l p′ l′ = (costOf F p l ≤ costOf F p′ l′) × (costOf F p 
 -- ---- as one number
 
 -- A rule of charging: what a product weighs without its literals, what each literal of it adds, and how products and literals are had back from the
--- sum of the weights
+-- sum of the weights: "a charge under a stated rule"
 pub record Rule : Type 0 where
   pub product : ℕ
   pub literal : ℕ

@@ -69,7 +69,7 @@ abbrev pub mixedThen : {A : Type 0} → MixedRead → A → (Class → ℕ → A
 mixedThen (mixed.Is C k) other f = f C k
 mixedThen mixed.Wrong other f = other
 
--- the number that digits say in base ten, after digits that say v
+-- the number that digits say in base ten, after digits that say v: "Numbers are written in base ten."
 unfoldable pub digitsFrom : ℕ → List ℕ → Number
 digitsFrom v [] = Is v
 digitsFrom v (b ∷ f) = andThen (digit 10 b) Wrong (λ d. digitsFrom (v * 10 + d) f)

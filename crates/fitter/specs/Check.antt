@@ -45,19 +45,19 @@ pub record PrintsTable (z : Sizes) (table s : List ℕ) (v : ℕ) (w c : ℕ →
   pub gives : Gives (z .n) v w c (at table)
 
 -- p is "the lowest point that differs": read from its own lines, inverters and all, the listing gives the table's byte at each point below p, and another
--- at p
+-- at p: "The fitter's check reads the line and inverts."
 pub record LowestDifference (n : ℕ) (table s : List ℕ) (p : ℕ) : Type 0 where
   pub point : p < 2 ^ n
   pub differs : listingValue s p ≡ at table p → ⊥
   pub before : (q : ℕ) → q < p → listingValue s q ≡ at table q
 
--- when each answer is given beside an accepted table text whose k is a number
+-- when each answer is given beside an accepted table text whose k is a number: "The fitter's check takes both families"
 pub record Answers (z : Sizes) (table s : List ℕ) (r : Checked) : Type 0 where
   -- "'Not of the class' is said exactly when no member with the listing's M and i prints those cubes.", of the listings that are not refused
   pub not-of-class : (r ≡ NotOfClass) ↔ (Passes z s × ((w c : ℕ → ℕ) → PrintsCubes z s w c → ⊥))
   -- "'Same' is said exactly when some member .. prints just those lines, outputs and all, and gives every output at every point, cheap or not."
   pub same : (r ≡ Same) ↔ ((v : ℕ) × (w : ℕ → ℕ) × (c : ℕ → ℕ) × PrintsTable z table s v w c)
-  -- a member prints the cubes, and p is the lowest point that differs
+  -- "Class is judged before points.": a member prints the cubes, and p is "the lowest point that differs"
   pub differs : (p : ℕ) → (r ≡ Differs p) ↔ (Passes z s × ((w : ℕ → ℕ) × (c : ℕ → ℕ) × PrintsCubes z s w c) × LowestDifference (z .n) table s p)
   -- a listing is refused exactly when it is not the listing of some terms, with the table's n, m, k, class and family and with its
   -- own counts
@@ -69,7 +69,7 @@ pub record KroneckerAnswers (s : List ℕ) (r : Checked) : Type 0 where
   pub other : (r ≡ Refused 11 1) ↔ (FormListing s → ⊥)
   pub either : (r ≡ Refused 11 1) ⊎ (r ≡ Refused 12 1)
 
--- the check, for every pair of byte strings
+-- the check, for every pair of byte strings, by what the table text means: "the check resolves a dash like the compiler"
 pub record Check (text s : List ℕ) (r : Checked) : Type 0 where
   pub answer : r ≡ checked (tables.reading text) s
   -- "The table text is judged first.": its refusal is the answer, with its number and its line, whatever the listing is
@@ -82,7 +82,7 @@ pub record Check (text s : List ℕ) (r : Checked) : Type 0 where
   pub first : (z : Sizes) (table : List ℕ) → Means text (mixedDesign z) table → (r ≡ Refused 11 1) ↔ (FormListing s → ⊥)
   -- W-202: "In the fitter's check a `kron` listing is 11, line 1", beside every table text that is accepted
   pub kron : (d : Design) (table : List ℕ) → Means text d table → KronListing s → r ≡ Refused 11 1
-  -- "is 11 with its line in the listing", "is 12 with line 1": a listing is refused by no other number
+  -- "is 11 with its line in the listing", "is 12 with line 1": a listing is refused by no other number. "Both follow 10."
   pub numbers : (z : Sizes) (table : List ℕ) → Means text (mixedDesign z) table → (number line : ℕ) → r ≡ Refused number line
       → ((number ≡ 11) × (1 ≤ line) × (line ≤ 1 + length s)) ⊎ ((number ≡ 12) × (line ≡ 1))
   -- a listing is refused exactly where document 02 refuses it, by that number and with that line

@@ -15,7 +15,7 @@ lineAfter before = length (all (parts 10 before))
 abbrev pub Above : ℕ → (ℕ → ℕ) → ℕ → Type 0
 Above N f p = (q : ℕ) → q < N → (f q ≡ 0 → ⊥) → q < p
 
--- "`end`", the last line of either text
+-- "`end`.", the last line of either text
 abbrev pub endLine : List ℕ
 endLine = line (bytes "end") []
 

@@ -30,7 +30,7 @@ kroneckerCube n letters t = descending n (λ i. literalByte (termLiteral letters
 abbrev pub kroneckerFields : (n m : ℕ) → (ℕ → ℕ) → (p l : ℕ) → List (List ℕ)
 kroneckerFields n m letters p l = decimal n ∷ decimal m ∷ letterBytes n letters ∷ decimal p ∷ decimal l ∷ []
 
--- "The listing begins `kron`": its first line
+-- "The listing begins `kron`": its first line, and no `inv` line follows: "Kronecker listings have no inverters."
 unfoldable pub kroneckerLine : (n m : ℕ) → (ℕ → ℕ) → (p l : ℕ) → List ℕ
 kroneckerLine n m letters p l = line (bytes "kron") (kroneckerFields n m letters p l)
 

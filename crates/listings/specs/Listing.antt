@@ -39,7 +39,7 @@ unfoldable pub digitCount : ℕ → ℕ
 digitCount x = cond (ltb x 10) 1 (cond (ltb x 100) 2 (cond (ltb x 1000) 3 4))
 
 -- x in base ten, where x is below 10,000, the highest digit first, with "no leading zero but `0`"; of a larger x its four lowest digits. The
--- character `0` is byte 48
+-- character `0` is byte 48. "Numbers are written in base ten."
 unfoldable pub decimal : ℕ → List ℕ
 decimal x = descending (digitCount x) (λ i. 48 + x / 10 ^ i % 10)
 
@@ -55,7 +55,7 @@ cubeByte (suc t) (suc w) = 48
 unfoldable pub cube : ℕ → ℕ → ℕ → List ℕ
 cube n t w = descending n (λ i. cubeByte (bit i t) (bit i w))
 
--- "Outputs are m characters, leftmost output 0, each `0` or `1`", from the coefficient c
+-- "Outputs are m characters, leftmost output 0, each `0` or `1`", from the coefficient c: "Outputs as above, from c[t]."
 unfoldable pub outputBytes : ℕ → ℕ → List ℕ
 outputBytes m c = tabulate m (λ o. 48 + bit o c)
 
@@ -66,7 +66,7 @@ unfoldable pub mixedMark : Class → List ℕ
 mixedMark Block = []
 mixedMark Free = bytes "f"
 
--- the characters of the field k, with k mixed inputs: "k (a digit)", or `f` and a digit
+-- the characters of the field k, with k mixed inputs: "k (a digit)", or `f` and a digit: "the listing repeats that field"
 unfoldable pub mixedField : Class → ℕ → List ℕ
 mixedField C k = mixedMark C ++ decimal k
 
@@ -117,7 +117,7 @@ productLines C n m k M i x c = termLines n m (polarity C n k M i x) c (2 ^ n)
 abbrev pub printedCubes : ℕ → (ℕ → ℕ) → (ℕ → ℕ) → List (List ℕ)
 printedCubes n w c = overNonzero (λ t. cube n t (w t) ∷ []) c (2 ^ n)
 
--- a whole listing: what stands before its products, the lines of the products among 2 ^ n terms, and "`end`"
+-- a whole listing: what stands before its products, the lines of the products among 2 ^ n terms, and "`end`."
 abbrev pub listingAfter : List ℕ → ℕ → ℕ → (ℕ → List ℕ) → (ℕ → ℕ) → List ℕ
 listingAfter first n m x c = first ++ cubeLines m x c (2 ^ n) ++ line (bytes "end") []
 

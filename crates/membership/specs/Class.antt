@@ -36,6 +36,6 @@ unfoldable pub showsBack : Class → (n k M i : ℕ) → (x w c : ℕ → ℕ) �
 showsBack C n k M i x w c t = eqb (c t) 0 || eqb (bitAnd t (polarity C n k M i x t)) (w t)
 
 -- "'Not of the class' is said exactly when no member with the listing's M and i prints those cubes": it is said where this test fails, which takes each
--- block's choice "as far as its cubes show it"
+-- block's choice "as far as its cubes show it", of the class that the field k selects: "the fitter judges by it"
 unfoldable pub ofClass : Class → (n k M i : ℕ) → (w c : ℕ → ℕ) → Bool
 ofClass C n k M i w c = legalPair n k M i && every (2 ^ n) (showsBack C n k M i (shownChoice C n k M w) w c)

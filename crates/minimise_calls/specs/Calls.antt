@@ -49,6 +49,7 @@ pub record MinimiseRefusals (n m k : ℕ) (table c b : List ℕ) (Refused : ℕ 
 -- it is called, and c′ and b′ when it returns.
 pub record Minimise (n m k : ℕ) (table c c′ b b′ : List ℕ) (r : Minimised) : Type 0 where
   pub answer : r ≡ minimised (minimiseRefusal n m k table (length c) (length b)) (answerExpansion Block One n k (at table))
+  -- "the binary call copies its first places into the lent buffers"
   pub coefficients : c′ ≡ unlessRefused (minimiseRefusal n m k table (length c) (length b)) (tabulate (2 ^ n) (answerCoefficient Block One n k (at table))) c
   pub blocks : b′ ≡ unlessRefused (minimiseRefusal n m k table (length c) (length b)) (tabulate (2 ^ (n - k)) (answerChoice Block One n k (at table))) b
   -- "A refusal returns its number and the line", which is 0 "for calls without text"

@@ -6,7 +6,7 @@ use lib.Bits.{bitAnd}
 use lib.Dec.{eqb}
 use Rattle.numbers.specs.Sums.{sumBelow}
 
--- bit i of x
+-- bit i of x: "Inputs are x1 to xn", and "bit i−1 of p is the value of xi"
 abbrev pub bit : ℕ → ℕ → ℕ
 bit i x = x / 2 ^ i % 2
 

@@ -39,7 +39,7 @@ pub record TableSized (n m : ℕ) : Type 0 where
   pub inputs : (1 ≤ n) × (n ≤ 8)
   pub outputs : (1 ≤ m) × (m ≤ 8)
 
--- the sizes of a table and its mixed inputs, of which there may be `most`, that are not refused (`sizes-none`, `sizes-accepted`)
+-- "n inputs (1 to 8) and m outputs (1 to 8), with k mixed inputs (0 to 3, at most n)", `most` being the 3: not refused (`sizes-none`, `sizes-accepted`)
 pub record Sized (n m most k : ℕ) : Type 0 where
   pub inputs : (1 ≤ n) × (n ≤ 8)
   pub outputs : (1 ≤ m) × (m ≤ 8)

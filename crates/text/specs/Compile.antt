@@ -35,7 +35,7 @@ pub record Compile (text before after : List ℕ) (r : Compiled) : Type 0 where
   pub refusals : TextRefusals text (λ number line. r ≡ Refused number line)
   -- the text of a design and a table within the limits is compiled, as the documents define the answer
   pub chosen : (d : Design) (table : List ℕ) → Means text d table → Chosen d table before after r
-  -- demand 3, of the bytes that now stand in the buffer
+  -- demand 3, of the bytes that now stand in the buffer: the call "owes demand 3 whole"
   pub meaning : (d : Design) (table : List ℕ) → Means text d table → (written : ℕ) → r ≡ Written written
       → IsListing (d .n) (d .family) (d .kind) (at table) (take written after)
   -- the longest listing has 5,919 bytes: a buffer of that length is never short

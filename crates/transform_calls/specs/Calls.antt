@@ -51,7 +51,7 @@ pub record Forward (n m w : ℕ) (table before after : List ℕ) (r : Transforme
   pub answer : r ≡ transformed (transformRefusal n m w table (length before))
   pub judged : Judged n m w table before r
   pub bytes : after ≡ unlessRefused (transformRefusal n m w table (length before)) (tabulate (2 ^ n) (coefficient n w (at table))) before
-  -- equation (1): the coefficients give the table at every point, all outputs together
+  -- equation (1): the coefficients give the table at every point, all outputs together; "A point p is a number below 2^n"
   pub meaning : r ≡ Done → (p : ℕ) → p < 2 ^ n → value n (λ t. w) (at after) p ≡ at table p
   -- "bits m to 7 zero"
   pub outputs : r ≡ Done → (t : ℕ) → t < 2 ^ n → at after t < 2 ^ m
@@ -62,6 +62,6 @@ pub record Backward (n m w : ℕ) (coefficients before after : List ℕ) (r : Tr
   pub judged : Judged n m w coefficients before r
   -- equation (1): the table's byte at every point is the value of the coefficients there, all outputs together
   pub bytes : after ≡ unlessRefused (transformRefusal n m w coefficients (length before)) (tabulate (2 ^ n) (value n (λ t. w) (at coefficients))) before
-  -- and they are its coefficients
+  -- and they are its coefficients: "Each is the inverse of the other under the same w."
   pub meaning : r ≡ Done → (t : ℕ) → t < 2 ^ n → coefficient n w (at after) t ≡ at coefficients t
   pub outputs : r ≡ Done → (p : ℕ) → p < 2 ^ n → at after p < 2 ^ m

@@ -32,7 +32,7 @@ blockCharge C R n k f M i j x = sumBelow (2 ^ k) (λ r. price R (ones j + ones r
 unfoldable pub leastChoice : ℕ → (ℕ → ℕ) → ℕ
 leastChoice N charge = chosen (firstLeast N (λ x. true) charge)
 
--- what M and i cost, by the charge of each block under each of N choices: every block has its least choice
+-- what M and i cost, by "any charge that adds up over blocks", of each block under each of N choices: every block has its least choice
 unfoldable pub pairCharge : (n k N : ℕ) → (ℕ → ℕ → ℕ) → ℕ
 pairCharge n k N charge = sumBelow (2 ^ (n - k)) (λ j. charge j (leastChoice N (charge j)))
 

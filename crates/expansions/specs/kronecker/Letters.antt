@@ -60,7 +60,7 @@ KroneckerGives n letters c f = (p : ℕ) → p < 2 ^ n → kroneckerValue n lett
 
 -- ---- "3^n kinds in all"
 
--- a letter for each of the n inputs: "one choice an input"
+-- a letter for each of the n inputs: "one choice an input", "3^n kinds in all"
 abbrev pub IsKind : ℕ → (ℕ → ℕ) → Type 0
 IsKind n letters = (i : ℕ) → i < n → letters i < 3
 

@@ -21,7 +21,7 @@ without i t = t - bit i t * 2 ^ i
 unfoldable pub kroneckerStep : (i letter : ℕ) → (ℕ → ℕ) → ℕ → ℕ
 kroneckerStep i letter g t = stepValue letter (bit i t) (g (without i t)) (g (without i t + 2 ^ i))
 
--- the steps for the inputs 0 to n - 1, one after the other
+-- the steps for the inputs 0 to n - 1, one after the other: "a mixture of the three steps"
 unfoldable pub kroneckerCoefficient : (n : ℕ) (letters f : ℕ → ℕ) → ℕ → ℕ
 kroneckerCoefficient zero letters f = f
 kroneckerCoefficient (suc n) letters f = kroneckerStep n (letters n) (kroneckerCoefficient n letters f)
