@@ -49,7 +49,7 @@ fn cause(text: &[u8], line: usize) -> Option<&'static str> {
         Some("it has too many fields")
     } else if fields[0] == b"on" && fields.get(1).is_some_and(|point| binary(point)) {
         Some("its point is in binary, not in base ten")
-    } else if lines.len() == line {
+    } else if lines.len() == line && !refused.is_empty() {
         Some("no line end follows it")
     } else {
         None

@@ -1,3 +1,3 @@
-// The first line of a `form` or a `form2` listing, written into a lent buffer. It stands in a crate of its own, so that the lines after it are checked
-// without it being proved again. The main property: `first::write_form` writes the line, and the bytes past it are as they were.
+// The first line of a `form` or a `form2` listing, written into a lent buffer. The main property: `first::write_form` writes the line, and the bytes past it
+// are as they were.
 pub mod first;

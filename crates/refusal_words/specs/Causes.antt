@@ -17,7 +17,7 @@ unfoldable pub lineAt : ℕ → List ℕ → List ℕ
 lineAt l text = getD (all (parts 10 text)) (l - 1) []
 
 -- a byte stands in a line: parted at it, the line has more than one part
-unfoldable pub has : ℕ → List ℕ → Bool
+abbrev pub has : ℕ → List ℕ → Bool
 has b line = ltb 1 (length (all (parts b line)))
 
 -- how many fields a line has by the documents, by its first word; 0 for any other word
@@ -41,13 +41,17 @@ inBinary n f = ltb 1 n && leb n 8 && andThen (mask n f) false (λ v. true)
 unfoldable pub binaryPoint : List ℕ → List ℕ → Bool
 binaryPoint text line = same (field 0 line) (bytes "on") && andThen (oneDigit (field 1 (lineAt 1 text))) false (λ n. inBinary n (field 1 line))
 
--- the first cause that line l shows. The last line of a text that has no line end is the last of its parts at byte 10
+-- a line that is begun and not ended: it is not empty, and the last of the text's parts at byte 10
+unfoldable pub unended : ℕ → List ℕ → Bool
+unended l text = ltb 0 (length (lineAt l text)) && eqb (length (all (parts 10 text))) l
+
+-- the first cause that line l shows
 unfoldable pub causeSeen : ℕ → List ℕ → Cause
 causeSeen l text =
     cond (has 32 (lineAt l text)) Blank
     (cond (has 13 (lineAt l text)) CarriageReturn
     (cond (tooManyFields (lineAt l text)) TooManyFields
-    (cond (binaryPoint text (lineAt l text)) BinaryPoint (cond (eqb (length (all (parts 10 text))) l) NoLineEnd Unseen))))
+    (cond (binaryPoint text (lineAt l text)) BinaryPoint (cond (unended l text) NoLineEnd Unseen))))
 
 -- a cause is looked for where a line breaks its grammar (1, 11) and where a point is refused (5)
 unfoldable pub causeOf : (number l : ℕ) → List ℕ → Cause

@@ -9,7 +9,7 @@ use fields::words::field_count;
 use fields::words::same;
 use numbers::limits::Limits;
 ghost use mathlib.Core.Path.{_≡_};
-ghost use Rattle.refusal_words.specs.Causes.{lineAt, has, fieldsAsked, tooManyFields, inBinary, binaryPoint, causeSeen, causeOf};
+ghost use Rattle.refusal_words.specs.Causes.{lineAt, fieldsAsked, tooManyFields, inBinary, binaryPoint, unended, causeSeen, causeOf};
 
 pub enum Cause {
     Unseen,
@@ -28,13 +28,6 @@ pub fn line_at(line: usize, text: &[u8]) -> &[u8]
         return part(text, b'\n', 0);
     }
     part(text, b'\n', line - 1)
-}
-
-// Whether a byte stands in a line.
-fn has(b: u8, line: &[u8]) -> bool
-    ensures { λ r. ⌜ r ≡ has b (now (line .entry)) ⌝ }
-{
-    1 < part_count(line, b)
 }
 
 // How many fields a line has by its first word; 0 for a word that no line begins with.
@@ -105,15 +98,26 @@ fn binary_point(text: &[u8], line: &[u8]) -> bool
     }
 }
 
+// Whether a line of a text is begun and not ended.
+fn unended(line: usize, text: &[u8]) -> bool
+    ensures { λ r. ⌜ r ≡ unended line (now (text .entry)) ⌝ }
+{
+    let begun = line_at(line, text);
+    if begun.len() == 0 {
+        return false;
+    }
+    part_count(text, b'\n') == line
+}
+
 // The first cause that a line of a text shows.
 fn cause_seen(line: usize, text: &[u8]) -> Cause
     ensures { λ r. ⌜ r ≡ causeSeen line (now (text .entry)) ⌝ }
 {
     let refused = line_at(line, text);
-    if has(b' ', refused) {
+    if 1 < part_count(refused, b' ') {
         return Cause::Blank;
     }
-    if has(b'\r', refused) {
+    if 1 < part_count(refused, b'\r') {
         return Cause::CarriageReturn;
     }
     if too_many_fields(refused) {
@@ -122,7 +126,7 @@ fn cause_seen(line: usize, text: &[u8]) -> Cause
     if binary_point(text, refused) {
         return Cause::BinaryPoint;
     }
-    if part_count(text, b'\n') == line {
+    if unended(line, text) {
         return Cause::NoLineEnd;
     }
     Cause::Unseen

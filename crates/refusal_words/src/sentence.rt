@@ -52,9 +52,9 @@ fn write_place(name: &[u8], line: usize, out: &mut [u8]) -> Writer
     write_line_words(named, line, out).word(out, b": ")
 }
 
-// Writes the words of a refusal of a text.
-fn write_text_words(start: Writer, number: usize, out: &mut [u8]) -> Writer
-    requires { ⌜ (start .at + 108 ≤ length (now out)) × (number ≤ 6) ⌝ }
+// Writes the words of a number.
+fn write_words(start: Writer, number: usize, out: &mut [u8]) -> Writer
+    requires { ⌜ start .at + 108 ≤ length (now out) ⌝ }
     ensures { λ r. ⌜ (r .at ≤ start .at + 108) × Put (now (out .entry)) (start .at) (refusalWords number) (now (out .exit)) (r .at) ⌝ }
 {
     match number {
@@ -70,19 +70,10 @@ fn write_text_words(start: Writer, number: usize, out: &mut [u8]) -> Writer
             out,
             b"the point is 2^n or more, or not above the one before",
         ),
-        _ => start.word(
+        6 => start.word(
             out,
             b"the text stops before its end line, or goes on after it",
         ),
-    }
-}
-
-// Writes the words of a refusal that is not of a table text.
-fn write_other_words(start: Writer, number: usize, out: &mut [u8]) -> Writer
-    requires { ⌜ (start .at + 108 ≤ length (now out)) × (7 ≤ number) ⌝ }
-    ensures { λ r. ⌜ (r .at ≤ start .at + 108) × Put (now (out .entry)) (start .at) (refusalWords number) (now (out .exit)) (r .at) ⌝ }
-{
-    match number {
         7 => start.word(out, b"the polarity w is 2^n or more"),
         8 => start.word(out, b"a buffer has another length than the call states"),
         9 => start.word(out, b"a byte has a bit at m or above set"),
@@ -97,17 +88,6 @@ fn write_other_words(start: Writer, number: usize, out: &mut [u8]) -> Writer
         ),
         _ => start.word(out, b"no refusal has this number"),
     }
-}
-
-// Writes the words of a number.
-fn write_words(start: Writer, number: usize, out: &mut [u8]) -> Writer
-    requires { ⌜ start .at + 108 ≤ length (now out) ⌝ }
-    ensures { λ r. ⌜ (r .at ≤ start .at + 108) × Put (now (out .entry)) (start .at) (refusalWords number) (now (out .exit)) (r .at) ⌝ }
-{
-    if number < 7 {
-        return write_text_words(start, number, out);
-    }
-    write_other_words(start, number, out)
 }
 
 // Writes the words of a cause.
