@@ -7,7 +7,6 @@ use libc::STDERR_FILENO;
 use libc::STDOUT_FILENO;
 use program_files::arguments::argument_count;
 use program_files::sources::read_argument;
-use refusal_words::refusal::of_listing;
 use refusal_words::refusal::refusal_in;
 use refusal_words::sentence::explain;
 use text::print::Printed;
@@ -53,7 +52,7 @@ fn answer(table_name: &[u8], text: &[u8], listing_name: &[u8], listing: &[u8]) {
     if refusal.number == 0 {
         return;
     }
-    if of_listing(refusal.number) {
+    if refusal.listing {
         tell(listing_name, refusal.number, refusal.line, listing);
     } else {
         tell(table_name, refusal.number, refusal.line, text);

@@ -29,9 +29,6 @@ refusal-in-requires c κs = search needs
 returns : tie.Need-returns
 returns c = search needs
 
-of-listing-requires : tie.Need-of-listing-requires
-of-listing-requires c κs = search needs
-
 tell-requires : tie.Need-tell-requires
 tell-requires c κs = search needs
 
@@ -56,7 +53,6 @@ answer-spec =
     slice-aggregate-refusal-in
     refusal-in-requires
     returns
-    of-listing-requires
     tell-requires
     tell-requires-2
     returns-2

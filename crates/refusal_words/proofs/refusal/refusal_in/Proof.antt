@@ -20,7 +20,7 @@ returns : tie.Need-returns
 unfolding told bytes
 returns c =
     let test = c .before in
-    rw (← test .before .before .line-at .ensures, ← test .headed .ensures, not-true (test .headed .result) (c .if1 .taken)) (refl, refl)
+    rw (← test .before .before .line-at .ensures, ← test .headed .ensures, not-true (test .headed .result) (c .if1 .taken)) (refl, refl, refl)
 
 field-requires : tie.Need-field-requires
 field-requires c κs = search needs
@@ -49,6 +49,7 @@ returns-2 c =
     rw (← test .before .before .line-at .ensures, ← test .headed .ensures, not-false (test .headed .result) (passed .if1 .left)) (
       rw (← number .before .before .field .ensures, ← number .before .read-number .ensures) (number .value-of .ensures),
       rw (← c .before .before .field2 .ensures, ← c .before .read-number2 .ensures) (c .value-of2 .ensures),
+      refl,
     )
 
 pub refusal-in-spec : {M : Type 1} → statement M
