@@ -6,8 +6,6 @@ use Prim.Native.Nat.{ℕ, _-_}
 use lib.Dec.{eqb, ltb, leb}
 use lib.ListN.{length, getD}
 use Rattle.listings.specs.Parts.{all, parts, fields, field, bytes, same}
-use Rattle.fields.specs.declared.values.Number.{Number}
-use Rattle.fields.specs.declared.values.Number.the-variants.{Is, Wrong}
 use Rattle.fields.specs.Fields.{andThen, oneDigit, mask}
 use Rattle.refusal_words.specs.declared.cause.Cause.{Cause}
 use Rattle.refusal_words.specs.declared.cause.Cause.the-variants.{Unseen, Blank, CarriageReturn, TooManyFields, BinaryPoint, NoLineEnd}

@@ -1,6 +1,5 @@
 -- `write_place` meets its contract: the name, the line and a colon, one after another.
-use mathlib.Core.Path.{_≡_, ap}
-use Prim.Native.Nat.{_≤_}
+use mathlib.Core.Path.{ap}
 use native.Mathlib.Omega.{arith}
 use borrow.Author.Needs.{needs}
 use lib.ListN.{length, length-take}
