@@ -7,8 +7,8 @@ use libc::STDERR_FILENO;
 use libc::STDOUT_FILENO;
 use program_files::arguments::argument_count;
 use program_files::sources::read_argument;
+use program_files::telling::tell_refusal;
 use refusal_words::refusal::refusal_in;
-use refusal_words::sentence::explain;
 use text::print::Printed;
 
 // Says how the program is used.
@@ -34,14 +34,6 @@ fn missing(arguments: usize) {
     usage();
 }
 
-// Explains a refusal of a text on standard error.
-fn tell(name: &[u8], number: usize, line: usize, text: &[u8]) {
-    let said = explain(name, number, line, text);
-    let sentence = said.bytes;
-    let count = said.length;
-    io::write_all(STDERR_FILENO, &sentence[..count]);
-}
-
 // Writes the answer for a table text and a listing, and explains it where it is a refusal, of the one or of the other.
 fn answer(table_name: &[u8], text: &[u8], listing_name: &[u8], listing: &[u8]) {
     let printed = print_check(text, listing);
@@ -49,13 +41,10 @@ fn answer(table_name: &[u8], text: &[u8], listing_name: &[u8], listing: &[u8]) {
     let length = printed.length;
     io::write_all(STDOUT_FILENO, &bytes[..length]);
     let refusal = refusal_in(&bytes[..length]);
-    if refusal.number == 0 {
-        return;
-    }
     if refusal.listing {
-        tell(listing_name, refusal.number, refusal.line, listing);
+        tell_refusal(refusal, listing_name, listing);
     } else {
-        tell(table_name, refusal.number, refusal.line, text);
+        tell_refusal(refusal, table_name, text);
     }
 }
 

@@ -7,8 +7,8 @@ use libc::STDIN_FILENO;
 use libc::STDOUT_FILENO;
 use program_files::arguments::argument_count;
 use program_files::sources::read_argument;
+use program_files::telling::tell_refusal;
 use refusal_words::refusal::refusal_in;
-use refusal_words::sentence::explain;
 use text::print::Printed;
 use text::print::print_answer;
 
@@ -31,14 +31,7 @@ fn answer(name: &[u8], text: &[u8]) {
     let bytes = printed.bytes;
     let length = printed.length;
     io::write_all(STDOUT_FILENO, &bytes[..length]);
-    let refusal = refusal_in(&bytes[..length]);
-    if refusal.number == 0 {
-        return;
-    }
-    let said = explain(name, refusal.number, refusal.line, text);
-    let sentence = said.bytes;
-    let count = said.length;
-    io::write_all(STDERR_FILENO, &sentence[..count]);
+    tell_refusal(refusal_in(&bytes[..length]), name, text);
 }
 
 fn main() {

@@ -26,20 +26,17 @@ slice-aggregate-refusal-in c = sym (length-take-le _ _ (c .before .before .befor
 refusal-in-requires : tie.Need-refusal-in-requires
 refusal-in-requires c κs = search needs
 
+tell-refusal-requires : tie.Need-tell-refusal-requires
+tell-refusal-requires c κs = search needs
+
+tell-refusal-requires-2 : tie.Need-tell-refusal-requires-2
+tell-refusal-requires-2 c κs = search needs
+
 returns : tie.Need-returns
 returns c = search needs
 
-tell-requires : tie.Need-tell-requires
-tell-requires c κs = search needs
-
-tell-requires-2 : tie.Need-tell-requires-2
-tell-requires-2 c κs = search needs
-
 returns-2 : tie.Need-returns-2
 returns-2 c = search needs
-
-returns-3 : tie.Need-returns-3
-returns-3 c = search needs
 
 pub answer-spec : {M : Type 1} → statement M
 answer-spec =
@@ -52,8 +49,7 @@ answer-spec =
     array-share-prefix-bytes-2
     slice-aggregate-refusal-in
     refusal-in-requires
+    tell-refusal-requires
+    tell-refusal-requires-2
     returns
-    tell-requires
-    tell-requires-2
-    returns-2
-    returns-3)
+    returns-2)

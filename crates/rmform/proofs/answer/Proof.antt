@@ -1,4 +1,4 @@
--- `answer` is safe: what is printed and what is said lie within the bytes that are handed out.
+-- `answer` is safe: what is printed lies within the bytes that `print_answer` hands out.
 use mathlib.Core.Path.{sym}
 use lib.Seq.{length-take-le}
 use borrow.Author.Needs.{needs}
@@ -26,23 +26,11 @@ slice-aggregate-refusal-in c = sym (length-take-le _ _ (c .before .before .befor
 refusal-in-requires : tie.Need-refusal-in-requires
 refusal-in-requires c κs = search needs
 
+tell-refusal-requires : tie.Need-tell-refusal-requires
+tell-refusal-requires c κs = search needs
+
 returns : tie.Need-returns
 returns c = search needs
-
-explain-requires : tie.Need-explain-requires
-explain-requires c κs = search needs
-
-array-share-prefix-sentence : tie.Need-array-share-prefix-sentence
-array-share-prefix-sentence c = search needs
-
-slice-aggregate-write-all-2 : tie.Need-slice-aggregate-write-all-2
-slice-aggregate-write-all-2 c = sym (length-take-le _ _ (c .before .before .explain .ensures .within))
-
-write-all-requires-2 : tie.Need-write-all-requires-2
-write-all-requires-2 c κs = search needs
-
-returns-2 : tie.Need-returns-2
-returns-2 c = search needs
 
 pub answer-spec : {M : Type 1} → statement M
 answer-spec =
@@ -55,9 +43,5 @@ answer-spec =
     array-share-prefix-bytes-2
     slice-aggregate-refusal-in
     refusal-in-requires
-    returns
-    explain-requires
-    array-share-prefix-sentence
-    slice-aggregate-write-all-2
-    write-all-requires-2
-    returns-2)
+    tell-refusal-requires
+    returns)
