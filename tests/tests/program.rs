@@ -152,18 +152,18 @@ fn input_in_pieces() {
 /// Texts that show a cause, each with the words that tell it.
 #[test]
 fn causes() {
+    let binary = "its point is in binary, not in base ten";
     for (text, words) in [
-        (&b"table\t3\t1\t1\non 3\t1\nend\n"[..], "blank"),
-        (b"table\t3\t1\t1\r\non\t3\t1\r\nend\r\n", "carriage return"),
-        (b"table\t3\t1\t1\non\t3\t1\t0\nend\n", "too many fields"),
-        (b"table\t3\t1\t1\non\t110\t1\nend\n", "in binary"),
-        (b"table\t4\t1\t1\non\t0110\t1\nend\n", "in binary"),
-        (b"table\t8\t1\t1\non\t11111111\t1\nend\n", "in binary"),
-        (b"table\t3\t1\t1\non\t3\t1\nend", "no line end"),
+        (&b"table\t3\t1\t1\non 3\t1\nend\n"[..], "it has a blank where a tab belongs"),
+        (b"table\t3\t1\t1\r\non\t3\t1\r\nend\r\n", "it has a carriage return"),
+        (b"table\t3\t1\t1\non\t3\t1\t0\nend\n", "it has too many fields"),
+        (b"table\t3\t1\t1\non\t110\t1\nend\n", binary),
+        (b"table\t4\t1\t1\non\t0110\t1\nend\n", binary),
+        (b"table\t8\t1\t1\non\t11111111\t1\nend\n", binary),
+        (b"table\t3\t1\t1\non\t3\t1\nend", "no line end follows it"),
     ] {
-        let output = run_form(&[], text);
-        let said = String::from_utf8(output.stderr).expect("words");
-        assert!(said.contains(&format!("; it has a {words}")) || said.contains(words), "{said}");
+        let said = String::from_utf8(run_form(&[], text).stderr).expect("words");
+        assert!(said.ends_with(&format!("; {words}\n")), "{said}");
         check_judged(text);
     }
     for text in [

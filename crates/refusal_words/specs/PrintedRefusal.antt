@@ -1,5 +1,5 @@
--- The refusal that a program printed. Document 01: "writes the listing, or the line `refused`, number, line." Document 02, W-201: 11 and 12 are told "with its
--- line in the listing", the others with the line in the table text.
+-- The refusal that a program printed. Document 01: "writes the listing, or the line `refused`, number, line." Document 02, W-201: "is 11 with its line in the
+-- listing", and 12, "with line 1", is of the listing too; the numbers up to 10 are not.
 use mathlib.Core.Bool.{Bool, cond}
 use mathlib.Core.List.{List}
 use Prim.Native.Nat.{ℕ}
