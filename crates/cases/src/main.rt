@@ -2,11 +2,13 @@
 // evaluator in another language expects. Each case is a line with the length of its text, in base ten, and then the text.
 // The contract of `print_answer` states what is printed for every text (`Print` in crates/text/specs/Print.antt). Every text that can be
 // accepted is shorter than the 8,192 bytes that are judged: it has at most 4,004 (the law `accepted-text-length` of the crate `table_texts`).
+#![tactic(auto)]
+
 use libc::{STDIN_FILENO, STDOUT_FILENO};
 use text::print::{Printed, print_answer};
 
 // What a length line says; or the input has ended.
-#[derive(Drop)]
+#[derive(Clone, Copy)]
 enum Length {
     Is(usize),
     Ended,

@@ -23,14 +23,14 @@ use lanes::sizes::Sizes;
 const LITERALS: [u8; 8] = [0, 1, 1, 2, 1, 2, 2, 3];
 
 // The least of the small sums of a block, in block 0 each with its mask in the byte below it, and the first choice that has it.
-#[derive(Drop)]
+#[derive(Clone, Copy)]
 pub struct LeastSum {
     pub sum: u32,
     pub choice: u8,
 }
 
 // The first least choice of a block, and what the block costs under it.
-#[derive(Drop)]
+#[derive(Clone, Copy)]
 pub struct Cheapest {
     pub charge: u32,
     pub choice: u8,

@@ -3,3 +3,4 @@
 // with outputs left out cost no more than those of the whole (specs/FewerPins, proofs/FewerPins `fewer-pins`), and neither do those of a text with a digit
 // more after the `f` (specs/WiderFields, proofs/WiderFields `wider-fields`); a text with `-` has the listing of the text with what `-` means written out
 // (specs/DashField, proofs/DashField `dash-field`).
+#![tactic(auto)]

@@ -4,21 +4,21 @@ ghost use Rattle.std.specs.Prelude.{◌≡◌, ◌-◌};
 ghost use Rattle.expansions.specs.Rules.{rule_of};
 
 // The family that a table is for: the first word of a table text is `table` for family one and `table2` for family two.
-#[derive(Drop)]
+#[derive(Clone, Copy)]
 pub enum Family {
     One,
     Two,
 }
 
 // What a product weighs without its literals, and what each literal of it adds.
-#[derive(Drop)]
+#[derive(Clone, Copy)]
 pub struct Weights {
     pub product: u32,
     pub literal: u32,
 }
 
 // Products and literals.
-#[derive(Drop)]
+#[derive(Clone, Copy)]
 pub struct Counts {
     pub products: usize,
     pub literals: usize,

@@ -7,7 +7,7 @@ use crate::words::FamilyRead;
 use expansions::families::Family;
 
 // The family, n and m of a first line.
-#[derive(Drop)]
+#[derive(Clone, Copy)]
 pub enum Heading {
     Is { family: Family, n: usize, m: usize },
     Wrong,

@@ -7,14 +7,14 @@ ghost use Rattle.fields.specs.Cubes.{character_said, cube_said};
 use expansions::kinds::Class;
 
 // What a field says that is to be a number.
-#[derive(Drop)]
+#[derive(Clone, Copy)]
 pub enum Number {
     Is(usize),
     Wrong,
 }
 
 // What a field k says: a class and how many inputs are mixed.
-#[derive(Drop)]
+#[derive(Clone, Copy)]
 pub enum MixedRead {
     Is { class: Class, k: usize },
     Wrong,
@@ -22,7 +22,7 @@ pub enum MixedRead {
 
 // What a field says that is to be a cube: the term has the bit of each input present, and `complemented` the bit of each input that stands
 // complemented.
-#[derive(Drop)]
+#[derive(Clone, Copy)]
 pub enum Cube {
     Is { term: usize, complemented: usize },
     Wrong,

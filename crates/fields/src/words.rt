@@ -8,7 +8,7 @@ use crate::parts::{part, part_count};
 use expansions::families::Family;
 
 // What the first word of a line says of the family.
-#[derive(Drop)]
+#[derive(Clone, Copy)]
 pub enum FamilyRead {
     Is(Family),
     Wrong,

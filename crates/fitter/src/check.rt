@@ -17,7 +17,7 @@ use table_texts::read::{ReadAnswer, read_table};
 use table_texts::sizes::{Design, Sizes};
 
 // The check's answer. A refusal has document 01's or 02's number, and the line in the table text or, for 11 and 12, in the listing.
-#[derive(Drop)]
+#[derive(Clone, Copy)]
 pub enum Checked {
     Same,
     Differs { point: usize },

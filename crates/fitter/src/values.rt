@@ -9,7 +9,7 @@ use numbers::places::wide;
 use search::expansion::Expansion;
 
 // The lowest point that differs, if there is one.
-#[derive(Drop)]
+#[derive(Clone, Copy)]
 pub enum Difference {
     At(usize),
     Nowhere,

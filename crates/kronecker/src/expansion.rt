@@ -6,7 +6,7 @@ use numbers::limits::Limits;
 
 // An expansion of a kind and what it costs: the coefficient of each term, zero from 2^n on; the letter of each input from x1 up, S 0, P 1, N 2,
 // and 0 where there is no input; and the counts of products and literals.
-#[derive(Drop)]
+#[derive(Clone, Copy)]
 pub struct KroneckerExpansion {
     pub coefficients: [u8; KroneckerExpansion::PLACES],
     pub letters: [u8; KroneckerExpansion::INPUTS],

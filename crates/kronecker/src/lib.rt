@@ -2,6 +2,8 @@
 // This is the search over all 3^n kinds. The main property, for every table of 1 to 8 inputs and 1 to 8 outputs: `answer::find_kronecker` hands
 // up the expansion that gives the table at every point with the fewest products, then the fewest literals, then the letters that come
 // first; every other expansion of these kinds that gives the table costs at least as much.
+#![tactic(auto)]
+
 pub mod answer;
 pub mod expansion;
 mod step;

@@ -24,7 +24,7 @@ fn counted_weight(coefficient: u8, weight: u32) -> u32
 }
 
 // What the lower half of the places weighs, the upper half, and their exclusive OR.
-#[derive(Drop)]
+#[derive(Clone, Copy)]
 pub struct HalfCharges {
     pub lower: u32,
     pub upper: u32,

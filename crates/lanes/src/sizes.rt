@@ -4,7 +4,7 @@ use expansions::kinds::Class;
 use numbers::limits::Limits;
 
 // How many inputs the table has, the class, how many inputs are mixed, and the family by whose rule an expansion is charged.
-#[derive(Drop)]
+#[derive(Clone, Copy)]
 pub struct Sizes {
     pub n: usize,
     pub class: Class,
@@ -18,7 +18,7 @@ impl Sizes {
 }
 
 // A mixed set M and a fixed polarity i, as masks.
-#[derive(Drop)]
+#[derive(Clone, Copy)]
 pub struct Pair {
     pub mixed: usize,
     pub fixed: usize,

@@ -9,14 +9,14 @@ use fields::cursor::Cursor;
 use numbers::limits::Limits;
 
 // What the lines lead to. A refusal has document 01's number and the line.
-#[derive(Drop)]
+#[derive(Clone, Copy)]
 pub enum RowsAnswer {
     Done,
     Refused { number: usize, line: usize },
 }
 
 // What one line leads to: the next line, with the least place that it may have; the end; or a refusal.
-#[derive(Drop)]
+#[derive(Clone, Copy)]
 enum Step {
     Next(Cursor, usize),
     Done,

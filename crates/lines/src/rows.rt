@@ -8,14 +8,14 @@ use fields::values::{Cube, Number, outputs, read_cube, read_number};
 use fields::words::{field, headed, same};
 
 // Which text the lines are of.
-#[derive(Drop)]
+#[derive(Clone, Copy)]
 pub enum Kind {
     Table,
     Listing,
 }
 
 // What the lines are judged by: their kind, the inputs n and the outputs m.
-#[derive(Drop)]
+#[derive(Clone, Copy)]
 pub struct Grammar {
     pub kind: Kind,
     pub n: usize,
@@ -24,7 +24,7 @@ pub struct Grammar {
 
 // What such a line says. A table's row is at its point, with the outputs as value; a listing's is at its term, with 256 times the
 // complemented inputs and the outputs as value.
-#[derive(Drop)]
+#[derive(Clone, Copy)]
 pub enum RowLine {
     Row { at: usize, value: usize },
     End,

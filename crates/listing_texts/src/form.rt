@@ -11,7 +11,7 @@ use fields::words::{family_of, field};
 use table_texts::sizes::Sizes;
 
 // What a first line states: the sizes with the class and the family, the mixed set M and the fixed polarity i as masks, and the counts.
-#[derive(Drop)]
+#[derive(Clone, Copy)]
 pub struct Form {
     pub sizes: Sizes,
     pub mixed: usize,
@@ -21,14 +21,14 @@ pub struct Form {
 }
 
 // What a first line says.
-#[derive(Drop)]
+#[derive(Clone, Copy)]
 pub enum FirstLine {
     States(Form),
     Wrong,
 }
 
 // The sizes that the fields of a first line say.
-#[derive(Drop)]
+#[derive(Clone, Copy)]
 enum SizesRead {
     Are(Sizes),
     Wrong,

@@ -24,14 +24,14 @@ use shown_rows::shown::{bytes_of, count_rows, shown_blocks};
 use table_texts::sizes::Sizes;
 
 // The reading's answer. A refusal has document 02's number and the line in the listing.
-#[derive(Drop)]
+#[derive(Clone, Copy)]
 pub enum ListingAnswer {
     Given,
     Refused { number: usize, line: usize },
 }
 
 // What the reading hands up: the record that the lines show, and the inputs that the cube of each term shows complemented.
-#[derive(Drop)]
+#[derive(Clone, Copy)]
 pub struct ListingRead {
     pub answer: ListingAnswer,
     pub expansion: Expansion,
@@ -39,7 +39,7 @@ pub struct ListingRead {
 }
 
 // What judging leads to: the numbers of the first line with the mask of the second, or a refusal.
-#[derive(Drop)]
+#[derive(Clone, Copy)]
 enum Judged {
     Passed(Form, usize),
     Refused { number: usize, line: usize },

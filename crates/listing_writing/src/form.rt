@@ -23,7 +23,7 @@ use writing::writer::Writer;
 const FRAME: usize = 17;
 
 // What the lines of the products go by besides the lent bytes: a member's class, its n, m and k, its mixed set M and its fixed polarity i.
-#[derive(Drop)]
+#[derive(Clone, Copy)]
 struct Member {
     class: Class,
     n: usize,

@@ -13,7 +13,7 @@ use search::expansion::Expansion;
 
 // The answer of the minimising call: the mixed set M, the fixed polarity i, the counts and the inversion mask of the member that it found, or declined
 // with document 01's number and line.
-#[derive(Drop)]
+#[derive(Clone, Copy)]
 pub enum Minimised {
     Found {
         mixed: usize,

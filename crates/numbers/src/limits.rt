@@ -1,6 +1,6 @@
 // The limits of the documents, in one place: every judge reads them here. Document 01: "tables of n inputs (1 to 8) and m outputs (1 to 8), with k
 // mixed inputs (0 to 3, at most n)". Document 02, W-207: "`f` with a digit above 2 or above n is refusal 4".
-#[derive(Drop)]
+#[derive(Clone, Copy)]
 pub struct Limits;
 
 impl Limits {

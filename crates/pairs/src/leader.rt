@@ -15,7 +15,7 @@ use lanes::sizes::{Pair, Sizes};
 use points::split::{ones_in, outside, spread};
 
 // The pair that leads, M * 2^n + i, and its charge; before there is one, the charge is above every charge.
-#[derive(Drop)]
+#[derive(Clone, Copy)]
 pub struct Leader {
     pub charge: u32,
     pub pair: usize,

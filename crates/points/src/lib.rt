@@ -3,5 +3,7 @@
 // first, so that the two joined give the number back (`IsSplit` of `expansions`), `split::gather` closes up those in it alone (`ClosedUp`),
 // `split::spread` opens them out again (`OpenedOut`), and `ascending::next_point` goes from one number opened out to the next. The functions
 // stand in a crate below the search, so that whatever else goes by blocks calls the same ones.
+#![tactic(auto)]
+
 pub mod ascending;
 pub mod split;

@@ -7,7 +7,7 @@ ghost use Rattle.expansions.specs.Members.{block, place};
 ghost use Rattle.expansions.specs.Split as Split;
 
 // The bits of a number outside the mixed set and those in it, each closed up.
-#[derive(Drop)]
+#[derive(Clone, Copy)]
 pub struct Parts {
     pub block: usize,
     pub place: usize,

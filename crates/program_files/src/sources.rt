@@ -7,7 +7,7 @@ use libc::STDIN_FILENO;
 use writing::writer::Writer;
 
 // What was read: whether the file could be read, how many bytes its name has, and how many bytes were read of it.
-#[derive(Drop)]
+#[derive(Clone, Copy)]
 pub struct Source {
     pub readable: bool,
     pub named: usize,

@@ -11,7 +11,7 @@ use writing::line::{write_line, write_refused};
 use writing::writer::Writer;
 
 // What is printed: the first `length` of the bytes. The bytes past them are zero.
-#[derive(Drop)]
+#[derive(Clone, Copy)]
 pub struct PrintedQuotation {
     pub bytes: [u8; PrintedQuotation::LONGEST_LINE],
     pub length: usize,

@@ -18,7 +18,7 @@ use table_texts::read::{ReadAnswer, read_table};
 use table_texts::sizes::{Design, Sizes};
 
 // The answer: the numbers of the listing, or declined with document 01's number and line.
-#[derive(Drop)]
+#[derive(Clone, Copy)]
 pub enum Quotation {
     Given {
         products: usize,

@@ -7,7 +7,7 @@ use fields::values::{Number, mask, one_digit};
 use fields::words::{field, field_count, same};
 use numbers::limits::Limits;
 
-#[derive(Drop)]
+#[derive(Clone, Copy)]
 pub enum Cause {
     Unseen,
     Blank,

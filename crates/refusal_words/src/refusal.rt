@@ -8,7 +8,7 @@ use fields::values::{Number, read_number};
 use fields::words::{field, headed};
 
 // A refusal; its number is 0 where nothing was refused. It is of the table text, or of the listing that is checked beside it.
-#[derive(Drop)]
+#[derive(Clone, Copy)]
 pub struct Refusal {
     pub number: usize,
     pub line: usize,

@@ -7,7 +7,7 @@ use crate::cause::{Cause, cause_of};
 use writing::writer::Writer;
 
 // A sentence: the first `length` of the bytes. The bytes past them are zero.
-#[derive(Drop)]
+#[derive(Clone, Copy)]
 pub struct Sentence {
     pub bytes: [u8; Sentence::ROOM],
     pub length: usize,

@@ -2,6 +2,8 @@
 // of `print_check` states that line for every pair of inputs (`Print` in crates/fitter/specs/Print.antt). A refusal is explained on standard error, by the
 // bytes that the contract of `explain` states (`sentence` in crates/refusal_words/specs/Sentences.antt). So are a missing argument and a file that cannot be
 // read told there.
+#![tactic(auto)]
+
 use fitter::print::print_check;
 use libc::{STDERR_FILENO, STDOUT_FILENO};
 use program_files::arguments::argument_count;

@@ -2,6 +2,8 @@
 // them, the listing or the line `refused`. The contract of `print_answer` states those bytes for every input (`Print` in crates/text/specs/Print.antt); its
 // field `whole` says that no accepted text is cut short. A refusal is explained on standard error, by the bytes that the contract of `explain` states
 // (`sentence` in crates/refusal_words/specs/Sentences.antt).
+#![tactic(auto)]
+
 use libc::STDERR_FILENO;
 use program_files::arguments::argument_count;
 use program_files::sources::read_input;

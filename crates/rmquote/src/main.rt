@@ -1,6 +1,8 @@
 // The program `rmquote`, for the quotation of document 02's W-209: it reads the first 8,192 bytes of standard input, or of the file that its argument names, and writes one line,
 // the quotation or the line `refused`. The contract of `print_quotation` states that line for every input (`Print` in crates/quote_text/specs/Print.antt). A
 // refusal is explained on standard error, by the bytes that the contract of `explain` states (`sentence` in crates/refusal_words/specs/Sentences.antt).
+#![tactic(auto)]
+
 use libc::STDERR_FILENO;
 use program_files::arguments::argument_count;
 use program_files::sources::read_input;

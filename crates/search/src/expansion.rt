@@ -7,7 +7,7 @@ use numbers::limits::Limits;
 
 // A member of a class and what it costs: the coefficient of each term, the choice of each block, which in document 01's class is its polarity, the
 // mixed set M and the fixed polarity i as masks, the counts of products and literals, and the outputs that are inverted, bit o for output o.
-#[derive(Drop)]
+#[derive(Clone, Copy)]
 pub struct Expansion {
     pub coefficients: [u8; Expansion::PLACES],
     pub blocks: [u8; Expansion::PLACES],

@@ -11,7 +11,7 @@ use points::split::{gather, ones_in, split};
 use search::expansion::Expansion;
 
 // The products and the literals of rows.
-#[derive(Drop)]
+#[derive(Clone, Copy)]
 pub struct Counts {
     pub products: usize,
     pub literals: usize,

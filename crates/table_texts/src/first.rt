@@ -10,14 +10,14 @@ use fields::values::{MixedRead, mixed_of, one_digit};
 use fields::words::{family_of, field, same};
 
 // What a field k says.
-#[derive(Drop)]
+#[derive(Clone, Copy)]
 pub enum KindRead {
     Is(Kind),
     Wrong,
 }
 
 // What a first line says.
-#[derive(Drop)]
+#[derive(Clone, Copy)]
 pub enum FirstLine {
     Table(Design),
     Wrong,

@@ -16,7 +16,7 @@ use lines::rows::{Grammar, Kind};
 use numbers::limits::Limits;
 
 // The reading call's answer. A refusal has document 01's number and the line.
-#[derive(Drop)]
+#[derive(Clone, Copy)]
 pub enum ReadAnswer {
     Given(Design),
     Refused { number: usize, line: usize },

@@ -7,7 +7,7 @@ use expansions::kinds::{Class, Kind, most_mixed};
 use numbers::refusals::{judge_sizes, judge_table};
 
 // The inputs n, the outputs m, the class with its mixed inputs k, for a part of the family.
-#[derive(Drop)]
+#[derive(Clone, Copy)]
 pub struct Sizes {
     pub n: usize,
     pub m: usize,
@@ -17,7 +17,7 @@ pub struct Sizes {
 }
 
 // What the first line of a table text says: the inputs n, the outputs m, the kind of k and the family.
-#[derive(Drop)]
+#[derive(Clone, Copy)]
 pub struct Design {
     pub n: usize,
     pub m: usize,

@@ -20,7 +20,7 @@ use table_texts::read::{ReadAnswer, read_table};
 use table_texts::sizes::{Design, Sizes};
 
 // The text call's answer: the length of the listing that was written, or declined with document 01's number and line.
-#[derive(Drop)]
+#[derive(Clone, Copy)]
 pub enum Compiled {
     Written { length: usize },
     Refused { number: usize, line: usize },

@@ -8,7 +8,7 @@ use crate::compile::{Compiled, compile};
 use writing::line::write_refused;
 
 // What is printed: the first `length` of the bytes. The bytes past them are zero.
-#[derive(Drop)]
+#[derive(Clone, Copy)]
 pub struct Printed {
     pub bytes: [u8; Printed::LONGEST_LISTING],
     pub length: usize,

@@ -7,7 +7,7 @@ use algebra::transform::{coefficients_into, values_into};
 use numbers::refusals::{judge_table, within_outputs};
 
 // The answer of a transform call: carried out, or declined with document 01's number and line.
-#[derive(Drop)]
+#[derive(Clone, Copy)]
 pub enum Transformed {
     Done,
     Refused { number: usize, line: usize },

@@ -4,7 +4,7 @@ ghost use Rattle.numbers.specs.Bits.{bit};
 ghost use Rattle.listings.specs.Listing.{digit_count, decimal, cube_byte, cube, output_bytes};
 ghost use Rattle.writing.specs.Put.{Put};
 
-#[derive(Drop)]
+#[derive(Clone, Copy)]
 pub struct Writer {
     pub at: usize,
 }
