@@ -1,0 +1,13 @@
+use borrow.Author.Rules.{rules}
+use Prim.Native.Nat.{◌-◌}
+use native.Mathlib.Omega.{arith}
+use lib.ListN.{length}
+use lib.Pow.{pow_pos}
+use Rattle.algebra.proofs.transform.Halves.{HalvedTo, bytes-none, halved-room, halved-more, halved-all}
+use Rattle.algebra.proofs.transform.half_step_bytes.Given as goal
+
+abbrev pub invariant-loop-base : goal.invariant-loop-base
+invariant-loop-base l = HalvedTo l.with l.s l.size l.to l.from l.base l.initial.bytes l.bytes
+
+abbrev pub decreases-loop-base : goal.decreases-loop-base
+decreases-loop-base l = length l.initial.bytes - l.base

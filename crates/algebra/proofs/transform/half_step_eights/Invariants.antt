@@ -1,0 +1,14 @@
+use borrow.Author.Rules.{rules}
+use mathlib.Core.Path.{◌≡◌, refl}
+use Prim.Native.Nat.{◌+◌, ◌-◌, ◌*◌, ◌/◌}
+use native.Mathlib.Omega.{arith}
+use lib.ListN.{length}
+use lib.Pow.{pow_pos}
+use Rattle.algebra.proofs.transform.Halves.{HalvedTo, eights-none, eights-room, eights-apart, eights-more, eights-all}
+use Rattle.algebra.proofs.transform.half_step_eights.Given as goal
+
+abbrev pub invariant-loop-base : goal.invariant-loop-base
+invariant-loop-base l = (l.count ≡ length l.initial.bytes / 8) × HalvedTo l.with (l.s + 3) (l.size * 8) (l.to * 8) (l.from * 8) (l.base * 8) l.initial.bytes l.bytes
+
+abbrev pub decreases-loop-base : goal.decreases-loop-base
+decreases-loop-base l = l.count - l.base

@@ -1,0 +1,14 @@
+use borrow.Author.Rules.{rules}
+use mathlib.Core.Path.{◌≡◌}
+use Prim.Native.Nat.{◌+◌, ◌-◌, ◌*◌, ◌≤◌}
+use native.Mathlib.Omega.{arith}
+use lib.ListN.{length}
+use Rattle.algebra.specs.Inner.Steps.{RunJoined, Apart}
+use Rattle.algebra.proofs.transform.Runs.{run_none, run-byte}
+use Rattle.algebra.proofs.transform.join_eight.Given as goal
+
+abbrev pub invariant-loop-q : goal.invariant-loop-q
+invariant-loop-q l = (l.q ≤ 8) × (l.to * 8 + 8 ≤ length l.initial.bytes) × (l.from * 8 + 8 ≤ length l.initial.bytes) × Apart (l.to * 8) (l.from * 8) 8 × RunJoined (l.to * 8) (l.from * 8) l.q l.initial.bytes l.bytes
+
+abbrev pub decreases-loop-q : goal.decreases-loop-q
+decreases-loop-q l = 8 - l.q

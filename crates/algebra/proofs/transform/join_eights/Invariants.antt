@@ -1,0 +1,16 @@
+use borrow.Author.Rules.{rules}
+use mathlib.Core.Path.{◌≡◌}
+use Prim.Native.Nat.{◌+◌, ◌-◌, ◌*◌, ◌≤◌}
+use native.Mathlib.Omega.{arith}
+use lib.ListN.{length}
+use Rattle.algebra.specs.Inner.Steps.{RunJoined, Apart}
+use Rattle.algebra.proofs.transform.Runs.{run_none, run-eight, apart-eight}
+use Rattle.algebra.proofs.transform.join_eights.Given as goal
+
+abbrev pub invariant-loop-q : goal.invariant-loop-q
+invariant-loop-q l =
+    (l.q ≤ l.count) × (l.to * 8 + l.count * 8 ≤ length l.initial.bytes) × (l.from * 8 + l.count * 8 ≤ length l.initial.bytes) × Apart (l.to * 8) (l.from * 8) (l.count * 8)
+    × RunJoined (l.to * 8) (l.from * 8) (l.q * 8) l.initial.bytes l.bytes
+
+abbrev pub decreases-loop-q : goal.decreases-loop-q
+decreases-loop-q l = l.count - l.q

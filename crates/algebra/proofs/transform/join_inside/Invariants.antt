@@ -1,0 +1,13 @@
+use borrow.Author.Rules.{rules}
+use Prim.Native.Nat.{◌+◌, ◌-◌}
+use native.Mathlib.Omega.{arith}
+use Rattle.algebra.specs.Inner.Steps.{half_step}
+use Rattle.algebra.proofs.HalfSteps.{half-below}
+use Rattle.algebra.proofs.transform.Inputs.{SteppedTo, stepped-none, stepped-long, stepped-ready, stepped-more, stepped-all}
+use Rattle.algebra.proofs.transform.join_inside.Given as goal
+
+abbrev pub invariant-loop-s : goal.invariant-loop-s
+invariant-loop-s l = SteppedTo (λ x. half_step 1 (l.low + x)) l.low l.n l.s l.initial.bytes l.bytes
+
+abbrev pub decreases-loop-s : goal.decreases-loop-s
+decreases-loop-s l = l.n - l.s

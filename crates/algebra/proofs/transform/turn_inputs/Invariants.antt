@@ -1,0 +1,14 @@
+use borrow.Author.Rules.{rules}
+use Prim.Native.Nat.{◌+◌, ◌-◌}
+use native.Mathlib.Omega.{arith}
+use Rattle.algebra.specs.Inner.Steps.{turned_where}
+use Rattle.algebra.proofs.HalfSteps.{where_below}
+use Rattle.algebra.proofs.transform.Inputs.{SteppedTo, stepped-none, stepped-long, stepped-ready, stepped-more, stepped-all, turned-digit}
+use Rattle.numbers.specs.Bits.{bit}
+use Rattle.algebra.proofs.transform.turn_inputs.Given as goal
+
+abbrev pub invariant-loop-s : goal.invariant-loop-s
+invariant-loop-s l = SteppedTo (λ x. turned_where (bit x l.changed) (l.low + x)) l.low l.n l.s l.initial.bytes l.bytes
+
+abbrev pub decreases-loop-s : goal.decreases-loop-s
+decreases-loop-s l = l.n - l.s

@@ -1,0 +1,15 @@
+use borrow.Author.Rules.{rules}
+use mathlib.Core.Logic.{⊎_elim}
+use mathlib.Core.Path.{ap₂, ◌∙◌}
+use Prim.Native.Nat.{ℕ, ◌+◌, ◌-◌, ◌*◌, ◌%◌, ◌^◌}
+use native.Mathlib.Omega.{arith}
+use lib.Bits.{mask_lt}
+use Rattle.numbers.specs.Words.{byte}
+use Rattle.charges.proofs.cheapest.Choices.{SumsTried, Shifted, count-pos, shifted-first, shifted-byte, shifted-more, tried-first, tried-take, tried-keep, tried-all, pair_lt}
+use Rattle.charges.proofs.cheapest.least_masked.Given as goal
+
+abbrev pub invariant-loop-left : goal.invariant-loop-left
+invariant-loop-left l = SumsTried l.k 65536 (λ φ. byte φ l.sums * 256 + byte φ l.masks) l.count l.least l.left × Shifted l.sums l.count l.rest l.left × Shifted l.masks l.count l.rest_masks l.left
+
+abbrev pub decreases-loop-left : goal.decreases-loop-left
+decreases-loop-left l = l.left

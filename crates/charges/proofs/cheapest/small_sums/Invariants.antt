@@ -1,0 +1,12 @@
+use borrow.Author.Rules.{rules}
+use Prim.Native.Nat.{◌-◌}
+use native.Mathlib.Omega.{arith}
+use Rattle.expansions.specs.Inner.Charges.{literal_counts, literal_count}
+use Rattle.charges.proofs.cheapest.Sums.{Summed, summed-none, summed-fits, summed-more, summed-all}
+use Rattle.charges.proofs.cheapest.small_sums.Given as goal
+
+abbrev pub invariant-loop-t : goal.invariant-loop-t
+invariant-loop-t l = Summed l.used l.sums l.t
+
+abbrev pub decreases-loop-t : goal.decreases-loop-t
+decreases-loop-t l = 8 - l.t

@@ -1,0 +1,16 @@
+use mathlib.Core.List.{[]}
+use mathlib.Core.Path.{◌≡◌, ap, sym, ◌∙◌}
+use Prim.Native.Nat.{ℕ, ◌+◌, ◌≤◌}
+use native.Mathlib.Omega.{arith}
+use borrow.Author.Rules.{rules}
+use lib.ListN.{length, get_or, drop}
+use Rattle.listings.specs.Parts.{all, parts}
+use Rattle.listings.specs.Inner.Stops.{stop}
+use Rattle.listings.proofs.Parts.{stop_le, first-slice, others-last, others-next, part-later, part_none}
+use Rattle.fields.proofs.parts.part.Given as goal
+
+abbrev pub invariant-loop-left : goal.invariant-loop-left
+invariant-loop-left l = (l.cursor.at ≤ length l.text) × (get_or (all (parts l.separator l.text)) l.j [] ≡ get_or (all (parts l.separator (drop l.cursor.at l.text))) l.left [])
+
+abbrev pub decreases-loop-left : goal.decreases-loop-left
+decreases-loop-left l = l.left

@@ -1,0 +1,28 @@
+-- `check` meets its contract: the text is refused, or the listing is judged beside its table.
+use mathlib.Core.Path.{◌≡◌, refl, sym, ap, ◌∙◌}
+use Rattle.table_texts.specs.Inner.Reading.{Reading, reading, stands_for}
+use Rattle.table_texts.proofs.read.Accepted.{reading-accepted, read_whole, reads-given, reads-refused}
+use Rattle.fitter.specs.Inner.Answer.{checked}
+use Rattle.fitter.proofs.Answers.{check-words}
+use borrow.Author.Rules.{rules}
+use Rattle.fitter.proofs.check.check.Goals as goal
+use Rattle.fitter.proofs.check.check.Goals.{After-read_table}
+
+means : (c : After-read_table) → stands_for c.read_table.result c.read_table.new.table ≡ reading c.args.text.now
+means c = read_whole _ _ _ _ c.read_table.ensures refl
+
+pub check_design-requires : goal.check_design-requires
+check_design-requires c =
+    (reading-accepted _ _ _ (reads-given _ _ _ _ c.in-Given.is (means (goal.at.check_design-requires c).After-read_table))).sized.inputs.1
+
+pub returns-in-Given : goal.returns-in-Given
+unfolding checked
+returns-in-Given c =
+    let e = reads-given _ _ _ _ c.in-Given.is (means (goal.at.returns-in-Given c).After-read_table) in
+    check-words _ _ _ (c.check_design.ensures ∙ sym (ap (λ (x : Reading). checked x c.args.listing.now) e))
+
+pub returns-in-Refused : goal.returns-in-Refused
+unfolding checked
+returns-in-Refused c =
+    let e = reads-refused _ _ _ _ _ c.in-Refused.is (means (goal.at.returns-in-Refused c).After-read_table) in
+    check-words _ _ _ (sym (ap (λ (x : Reading). checked x c.args.listing.now) e))

@@ -1,0 +1,19 @@
+use borrow.Author.Rules.{rules}
+use mathlib.Core.Logic.{⊎_elim}
+use mathlib.Core.Path.{◌≡◌, refl, sym, ap, ◌∙◌}
+use Prim.Native.Nat.{ℕ, ◌-◌, ◌≤◌, ◌<◌, ◌^◌}
+use native.Mathlib.Numerals.{add-one}
+use native.Mathlib.Omega.{arith}
+use lib.Bits.{bit_xor, xor_zero_r}
+use Rattle.numbers.specs.Bytes.{at}
+use Rattle.numbers.specs.Sums.{fold_below}
+use Rattle.numbers.specs.Tests.{only}
+use Rattle.numbers.proofs.Shifts.{one_shifted, points-le}
+use Rattle.algebra.specs.Terms.{holds, value}
+use Rattle.fitter.proofs.values.value_at.Given as goal
+
+abbrev pub invariant-loop-t : goal.invariant-loop-t
+invariant-loop-t l = (l.t ≤ 2 ^ l.n) × (l.sum ≡ fold_below bit_xor l.t (λ u. only (holds u (at l.complements u) l.p) (at l.coefficients u)))
+
+abbrev pub decreases-loop-t : goal.decreases-loop-t
+decreases-loop-t l = 2 ^ l.n - l.t

@@ -1,0 +1,14 @@
+use borrow.Author.Rules.{rules}
+use mathlib.Core.Path.{◌≡◌, ap, ◌∙◌}
+use Prim.Native.Nat.{◌-◌}
+use native.Mathlib.Omega.{arith}
+use lib.ListN.{length}
+use Rattle.numbers.proofs.Bytes.{length-tabulate}
+use Rattle.expansions.proofs.Kronecker.Coefficients.{CoefficientsTo, coefficients-none, coefficients-fit, coefficients-more, coefficients-all}
+use Rattle.kronecker.proofs.answer.coefficients.Given as goal
+
+abbrev pub invariant-loop-i : goal.invariant-loop-i
+invariant-loop-i l = (length l.values ≡ 256) × CoefficientsTo l.n l.size l.i l.letters l.table l.values
+
+abbrev pub decreases-loop-i : goal.decreases-loop-i
+decreases-loop-i l = l.n - l.i

@@ -1,0 +1,15 @@
+use borrow.Author.Rules.{rules}
+use mathlib.Core.Path.{◌≡◌}
+use Prim.Native.Nat.{◌+◌, ◌-◌, ◌≤◌}
+use native.Mathlib.Omega.{arith}
+use lib.ListN.{length, length-set}
+use Rattle.numbers.specs.Bytes.{at}
+use Rattle.expansions.specs.Inner.KroneckerWalk.{RunStepped}
+use Rattle.expansions.proofs.Kronecker.Runs.{run_none, run_more}
+use Rattle.kronecker.proofs.step.step_run.Given as goal
+
+abbrev pub invariant-loop-q : goal.invariant-loop-q
+invariant-loop-q l = (l.q ≤ l.half) × (l.base + l.half + l.half ≤ 256) × (length l.to ≡ 256) × RunStepped l.base l.half l.letter l.q (at l.from) (at l.initial.to) (at l.to)
+
+abbrev pub decreases-loop-q : goal.decreases-loop-q
+decreases-loop-q l = l.half - l.q

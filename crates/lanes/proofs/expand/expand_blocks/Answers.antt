@@ -1,0 +1,49 @@
+-- `expand_blocks` meets its contract: the lent part of `laid` holds the layout, and each output is expanded by itself.
+use borrow.Author.Rules.{rules}
+use mathlib.Core.Path.{ap, ◌∙◌}
+use native.Mathlib.Omega.{arith}
+use lib.ListN.{length}
+use Rattle.numbers.proofs.Bytes.{length-tabulate}
+use Rattle.lanes.proofs.expand.Laying.{closed-lt, blocks-both}
+use Rattle.lanes.proofs.expand.Room.{blocks-le, room_fits, room-counted, room-lent, room-kept, room-fits-again, room-counted-again}
+use Rattle.lanes.proofs.expand.expand_blocks.Goals as goal
+
+pub slice_bounds-laid-end : goal.slice_bounds-laid-end
+slice_bounds-laid-end c = room_fits 8 c.args.sizes (omega arith) c.requires.limits
+
+pub slice_bounds-lay_out-end : goal.slice_bounds-lay_out-end
+slice_bounds-lay_out-end c = room-counted 8 c.args.sizes (omega arith) c.requires.limits
+
+pub lay_out-requires : goal.lay_out-requires
+lay_out-requires c =
+    record { limits = c.requires.limits; mixed_set = c.requires.mixed_set; table_len = (c.requires.table_len.0, room-lent 8 c.args.sizes (omega arith) c.requires.limits) }
+
+pub slice_bounds-laid-end-2 : goal.slice_bounds-laid-end-2
+slice_bounds-laid-end-2 c =
+    let laid = c.lay_out in
+    room-fits-again 8 c.args.sizes (omega arith) c.requires.limits laid.new.1.1.1.0 _ (ap length laid.ensures.0 ∙ length-tabulate _ _)
+
+pub slice_bounds-expand_lanes-end : goal.slice_bounds-expand_lanes-end
+slice_bounds-expand_lanes-end c =
+    let laid = c.lay_out in
+    room-counted-again 8 c.args.sizes (omega arith) c.requires.limits laid.new.1.1.1.0 _ (ap length laid.ensures.0 ∙ length-tabulate _ _)
+
+pub expand_lanes-requires : goal.expand_lanes-requires
+expand_lanes-requires c =
+    let laid = c.lay_out in
+    let long = ap length laid.ensures.0 ∙ length-tabulate _ _ in (
+      blocks-le c.args.sizes c.requires.limits,
+      closed-lt c.args.sizes c.args.pair.mixed _ _ _ c.requires.mixed_set c.outside.ensures c.gather-w.ensures.value,
+      ap length (room-kept 8 c.args.sizes (omega arith) c.requires.limits laid.new.1.1.1.0 _ long) ∙ long,
+      c.requires.table_len.1,
+    )
+
+pub returns : goal.returns
+returns c =
+    let laid = c.lay_out in
+    let long = ap length laid.ensures.0 ∙ length-tabulate _ _ in
+    let kept = room-kept 8 c.args.sizes (omega arith) c.requires.limits laid.new.1.1.1.0 _ long in
+    let others = c.outside.ensures in
+    let fixed = c.gather-w.ensures.value in
+    blocks-both c.args.sizes c.args.pair.mixed _ _ _ c.requires.mixed_set others fixed c.args.table.now _ _ _ kept laid.ensures
+    c.expand_lanes.ensures

@@ -1,0 +1,13 @@
+use borrow.Author.Rules.{rules}
+use Prim.Native.Nat.{◌-◌, ◌*◌}
+use native.Mathlib.Omega.{arith}
+use lib.ListN.{length}
+use Rattle.numbers.proofs.Bytes.{Filled, filled_none, filled-all}
+use Rattle.lanes.proofs.expand.Laying.{laid_byte, laid_more}
+use Rattle.lanes.proofs.expand.fill_lanes.Given as goal
+
+abbrev pub invariant-loop-q : goal.invariant-loop-q
+invariant-loop-q l = Filled (laid_byte l.table l.points l.offsets) (8 * l.q) l.initial.lanes l.lanes
+
+abbrev pub decreases-loop-q : goal.decreases-loop-q
+decreases-loop-q l = length l.points - l.q

@@ -1,0 +1,18 @@
+use borrow.Author.Rules.{rules}
+use mathlib.Core.Path.{◌≡◌, ap, ◌∙◌}
+use Prim.Native.Nat.{ℕ, ◌+◌, ◌-◌, ◌*◌, ◌≤◌, ◌<◌}
+use native.Mathlib.Numerals.{add-one}
+use lib.Bits.{bit_and, and_mask}
+use Rattle.numbers.specs.Bytes.{at}
+use Rattle.numbers.specs.Bits.{pack}
+use Rattle.numbers.proofs.Pack.{pack-none}
+use Rattle.expansions.proofs.Least.{below-one-more}
+use Rattle.lanes.proofs.terms.Outputs.{output_bit, digit_lt, outputs-more, outputs-fit, rows-coefficient}
+use native.Mathlib.Omega.{arith}
+use Rattle.lanes.proofs.terms.coefficient_in.Given as goal
+
+abbrev pub invariant-loop-o : goal.invariant-loop-o
+invariant-loop-o l = (l.o ≤ 8) × (l.byte ≡ pack l.o (output_bit l.rows l.lanes l.j l.s l.choice)) × ((q : ℕ) → q < l.o → at l.lanes (l.j * 8 + q) < 256)
+
+abbrev pub decreases-loop-o : goal.decreases-loop-o
+decreases-loop-o l = 8 - l.o

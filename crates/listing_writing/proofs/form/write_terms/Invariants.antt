@@ -1,0 +1,24 @@
+use borrow.Author.Rules.{rules}
+use mathlib.Core.List.{List}
+use mathlib.Core.Path.{◌≡◌, ◌∙◌}
+use Prim.Native.Nat.{ℕ, ◌-◌, ◌≤◌, ◌<◌, ◌^◌}
+use native.Mathlib.Numerals.{add-one}
+use Rattle.numbers.specs.Bytes.{at}
+use Rattle.expansions.specs.Members.{polarity}
+use Rattle.search.specs.Expansion.{term_polarity}
+use Rattle.search.proofs.polarity.Fitting.{term_polarity-fits}
+use Rattle.numbers.specs.Nonzero.{over_nonzero}
+use Rattle.listings.specs.Listing.{cube, term_lines}
+use Rattle.writing.specs.Put.{Put}
+use Rattle.writing.proofs.Puts.{put-none, put_then, put-length}
+use Rattle.listings.proofs.Lengths.{cube_lines-le}
+use Rattle.numbers.proofs.Shifts.{one_shifted, points-le}
+use native.Mathlib.Omega.{arith}
+use Rattle.listing_writing.specs.declared.form.Member.{Member}
+use Rattle.listing_writing.proofs.form.write_terms.Given as goal
+
+abbrev pub invariant-loop-t : goal.invariant-loop-t
+invariant-loop-t l = (l.t ≤ 2 ^ l.member.n) × Put l.initial.out l.initial.place.at (term_lines l.member.n l.member.m (polarity_in l.member l.blocks) (at l.coefficients) l.t) l.out l.place.at
+
+abbrev pub decreases-loop-t : goal.decreases-loop-t
+decreases-loop-t l = 2 ^ l.member.n - l.t

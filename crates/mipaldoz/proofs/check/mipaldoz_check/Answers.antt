@@ -1,0 +1,11 @@
+-- `mipaldoz_check` meets its contract.
+use borrow.Author.Rules.{rules}
+use Rattle.fitter.specs.Check.{Check}
+use Rattle.mipaldoz.specs.Answers.{check_numbers}
+use Rattle.mipaldoz.proofs.Answers.{answer-told}
+use Rattle.mipaldoz.proofs.check.mipaldoz_check.Goals as goal
+
+pub returns : goal.returns
+returns c =
+    let called = c.check in
+    answer-told check_numbers (Check _ _) called.result _ _ called.ensures.answer called.ensures c.check_numbers.ensures

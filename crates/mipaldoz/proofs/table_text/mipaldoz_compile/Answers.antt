@@ -1,0 +1,11 @@
+-- `mipaldoz_compile` meets its contract.
+use borrow.Author.Rules.{rules}
+use Rattle.text.specs.Compile.{Compile}
+use Rattle.mipaldoz.specs.Answers.{listing_numbers}
+use Rattle.mipaldoz.proofs.Answers.{answer-told}
+use Rattle.mipaldoz.proofs.table_text.mipaldoz_compile.Goals as goal
+
+pub returns : goal.returns
+returns c =
+    let called = c.compile in
+    answer-told listing_numbers (Compile _ _ _) called.result _ _ called.ensures.answer called.ensures c.listing_numbers.ensures

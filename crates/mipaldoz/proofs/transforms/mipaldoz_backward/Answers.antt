@@ -1,0 +1,11 @@
+-- `mipaldoz_backward` meets its contract.
+use borrow.Author.Rules.{rules}
+use Rattle.transform_calls.specs.Calls.{Backward}
+use Rattle.mipaldoz.specs.Answers.{transform_numbers}
+use Rattle.mipaldoz.proofs.Answers.{answer-told}
+use Rattle.mipaldoz.proofs.transforms.mipaldoz_backward.Goals as goal
+
+pub returns : goal.returns
+returns c =
+    let called = c.backward in
+    answer-told transform_numbers (Backward _ _ _ _ _ _) called.result _ _ called.ensures.answer called.ensures c.answer_numbers.ensures

@@ -1,0 +1,11 @@
+-- `mipaldoz_forward` meets its contract.
+use borrow.Author.Rules.{rules}
+use Rattle.transform_calls.specs.Calls.{Forward}
+use Rattle.mipaldoz.specs.Answers.{transform_numbers}
+use Rattle.mipaldoz.proofs.Answers.{answer-told}
+use Rattle.mipaldoz.proofs.transforms.mipaldoz_forward.Goals as goal
+
+pub returns : goal.returns
+returns c =
+    let called = c.forward in
+    answer-told transform_numbers (Forward _ _ _ _ _ _) called.result _ _ called.ensures.answer called.ensures c.answer_numbers.ensures

@@ -1,0 +1,48 @@
+-- `try_polarities` meets its contract: the leader leads the pairs of `mixed` whose polarity, closed up, is below w.
+use borrow.Author.Rules.{rules}
+use mathlib.Core.Path.{◌∙◌}
+use Prim.Native.Nat.{◌-◌}
+use native.Mathlib.Omega.{arith}
+use Rattle.numbers.specs.Bytes.{at}
+use Rattle.numbers.proofs.Shifts.{one_shifted}
+use Rattle.lanes.proofs.expand.Room.{blocks-le, room-le}
+use Rattle.pairs.proofs.leader.Trying.{Trying, trying-none, trying-next, trying-all}
+use Rattle.pairs.proofs.leader.try_polarities.Goals as goal
+
+pub expand_blocks-requires : goal.expand_blocks-requires
+expand_blocks-requires c = let p = c.requires.1 in record { limits = p.0; mixed_set = p.1.1.0.0; table_len = (p.1.0.long, p.1.1.0.1) }
+
+pub loop-w-init : goal.loop-w-init
+loop-w-init c =
+    let p = c.requires.1 in
+    let e = c.expand_blocks in
+    trying-none _ _ _ _ _ _ (one_shifted _ (omega (arith, blocks-le c.args.sizes p.0))) (e.auto.1.1.1.0 ∙ p.1.1.0.1) e.ensures.0 p.1.1.1
+
+pub try_polarity-next-requires : goal.try_polarity-next-requires
+try_polarity-next-requires c =
+    let p = c.requires in
+    record { rows = p.0; limits = p.1.0; mixed_bound = (p.1.1.1.0.0.mask, c.loop-w.invariant.long) }
+
+pub next_polarity-requires : goal.next_polarity-requires
+next_polarity-requires c =
+    let l = c.loop-w in
+    (blocks-le c.args.sizes c.requires.limits, omega (arith, c.loop-w-test.true, l.invariant.all), l.invariant.long)
+
+pub overflow_add-w : goal.overflow_add-w
+overflow_add-w c =
+    let less = c.loop-w-test.true in
+    let l = c.loop-w in
+    omega (arith, less, l.invariant.all, room-le 1 c.args.sizes (omega arith) c.requires.limits)
+
+pub loop-w-preserved : goal.loop-w-preserved
+loop-w-preserved c =
+    let p = c.requires.1 in
+    let l = c.loop-w in
+    let less = c.loop-w-test.true in
+    let next = c.next_polarity in
+    trying-next c.args.sizes c.args.mixed c.args.table.now _ _ _ _ p.1.1.0.0 l.invariant p.0 p.1.0 less _ _
+    c.try_polarity-next.ensures next.auto.1.1.0 next.ensures.0
+
+pub returns : goal.returns
+returns c =
+    trying-all _ _ c.args.table.now _ _ _ _ c.requires.mixed_set.0 c.loop-w.invariant c.loop-w-test.false

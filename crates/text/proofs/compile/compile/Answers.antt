@@ -1,0 +1,22 @@
+-- `compile` meets its contract: the text is refused, or its table is compiled.
+use borrow.Author.Rules.{rules}
+use mathlib.Core.Path.{◌≡◌, refl}
+use Rattle.table_texts.specs.Inner.Reading.{reading, stands_for}
+use Rattle.table_texts.proofs.read.Accepted.{reading-accepted, read_whole, reads-given}
+use Rattle.text.proofs.compile.Listings.{compile-given, compile-refused}
+use Rattle.text.proofs.compile.compile.Goals as goal
+use Rattle.text.proofs.compile.compile.Goals.{After-read_table}
+
+means : (c : After-read_table) → stands_for c.read_table.result c.read_table.new.table ≡ reading c.args.text.now
+means c = read_whole _ _ _ _ c.read_table.ensures refl
+
+pub compile_table-requires : goal.compile_table-requires
+compile_table-requires c = reading-accepted _ _ _ (reads-given _ _ _ _ c.in-Given.is (means (goal.at.compile_table-requires c).After-read_table))
+
+pub returns-in-Given : goal.returns-in-Given
+returns-in-Given c =
+    let e = reads-given _ _ _ _ c.in-Given.is (means (goal.at.returns-in-Given c).After-read_table) in
+    compile-given _ _ _ _ _ _ e c.compile_table.ensures.value c.compile_table.ensures.output_after
+
+pub returns-in-Refused : goal.returns-in-Refused
+returns-in-Refused c = compile-refused _ _ _ _ _ _ c.in-Refused.is (means (goal.at.returns-in-Refused c).After-read_table)

@@ -1,0 +1,15 @@
+use borrow.Author.Rules.{rules}
+use mathlib.Core.Path.{sym, ◌∙◌}
+use Prim.Native.Nat.{◌-◌, ◌<◌}
+use native.Mathlib.Omega.{arith}
+use Rattle.numbers.specs.Bytes as bytes
+use Rattle.listings.specs.Kronecker.{kronecker_cube}
+use Rattle.listings.proofs.Kronecker.{length-kronecker_cube, at-kronecker_cube}
+use Rattle.writing.proofs.Puts.{Written, written_none, written-more, written_all}
+use Rattle.writing.proofs.letters.write_cube.Given as goal
+
+abbrev pub invariant-loop-k : goal.invariant-loop-k
+invariant-loop-k l = Written (kronecker_cube l.n (bytes.at l.letters) l.t) l.at l.initial.out l.out l.k
+
+abbrev pub decreases-loop-k : goal.decreases-loop-k
+decreases-loop-k l = l.n - l.k

@@ -1,0 +1,14 @@
+use borrow.Author.Rules.{rules}
+use mathlib.Core.Path.{sym, ◌∙◌}
+use Prim.Native.Nat.{◌-◌, ◌<◌}
+use Rattle.listings.specs.Listing.{decimal, digit_count}
+use Rattle.writing.proofs.Puts.{Written, written_none, written-more, written_all}
+use Rattle.listings.proofs.Characters.{length-decimal, at-decimal, digit_count-in}
+use native.Mathlib.Omega.{arith}
+use Rattle.writing.proofs.writer.Writer.number.Given as goal
+
+abbrev pub invariant-loop-k : goal.invariant-loop-k
+invariant-loop-k l = Written (decimal l.x) l.at l.initial.out l.out l.k
+
+abbrev pub decreases-loop-k : goal.decreases-loop-k
+decreases-loop-k l = l.count - l.k
