@@ -11,10 +11,7 @@ use Rattle.numbers.proofs.Words.{word-ext}
 use Rattle.expansions.specs.BlockTable.{entry, block_table}
 use Rattle.expansions.proofs.BlockTable.{block_table-entry, entry_lt}
 use Rattle.blocks.proofs.rows.block_rows.Goals as goal
-
--- the row of g
-abbrev row : ℕ → ℕ
-row g = word 8 (entry g)
+use Rattle.blocks.proofs.rows.block_rows.Invariants.{row}
 
 -- the entries that are read are those of the row
 read : (entries : List ℕ) (g q : ℕ) → entries ≡ block_table → g < 256 → q < 8 → at entries (g * 8 + q) ≡ entry g q

@@ -11,6 +11,10 @@ use Rattle.expansions.specs.BlockTable.{entry, block_table}
 use Rattle.expansions.proofs.BlockTable.{block_table-entry, entry_lt}
 use Rattle.blocks.proofs.rows.block_rows.Given as goal
 
+-- the row of g
+abbrev pub row : ℕ → ℕ
+row g = word 8 (entry g)
+
 abbrev pub invariant-loop-g : goal.invariant-loop-g
 invariant-loop-g l = Filled row l.g l.initial.all l.all
 

@@ -13,10 +13,7 @@ use Rattle.numbers.proofs.Words.{word-ext}
 use Rattle.expansions.specs.BlockTable.{own_entry, own_table}
 use Rattle.expansions.proofs.BlockTable.{own_table-row, own_entry-lt}
 use Rattle.blocks.proofs.rows.own_rows.Goals as goal
-
--- row y
-abbrev row : ℕ → ℕ
-row y = word 8 (λ q. own_entry (y % 256) (y / 256 * 8 + q))
+use Rattle.blocks.proofs.rows.own_rows.Invariants.{row}
 
 -- where it stands in the table
 abbrev start : ℕ → ℕ

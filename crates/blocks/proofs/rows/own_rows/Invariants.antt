@@ -13,6 +13,10 @@ use Rattle.expansions.specs.BlockTable.{own_entry, own_table}
 use Rattle.expansions.proofs.BlockTable.{own_table-row, own_entry-lt}
 use Rattle.blocks.proofs.rows.own_rows.Given as goal
 
+-- row y
+abbrev pub row : ℕ → ℕ
+row y = word 8 (λ q. own_entry (y % 256) (y / 256 * 8 + q))
+
 abbrev pub invariant-loop-y : goal.invariant-loop-y
 invariant-loop-y l = Filled row l.y l.initial.all l.all
 

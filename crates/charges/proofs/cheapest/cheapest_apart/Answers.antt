@@ -23,21 +23,19 @@ sums c = let a = c.args in all_sum a.sizes.class a.sizes.k (at a.lanes.now) a.j
 -- the first least of each half
 low : (c : After-least_sum-high) → IsLeastSum 8 (sums c) c.least_sum-low.result
 low c =
-    let s = start c in
-    let z = s.args.sizes in
+    let z = c.args.sizes in
     least_zero 8 (lit< tt) (sums c) _
-    (word-least z.class z.k (at s.args.lanes.now) s.args.j 0 3 _ _ _ (first-half z.class z.k) (lit< tt)
-    (c.used_terms.ensures z.class z.k s.pre.0.0 (first-half z.class z.k)) c.small_sums.ensures c.least_sum-low.ensures)
+    (word-least z.class z.k (at c.args.lanes.now) c.args.j 0 3 _ _ _ (first-half z.class z.k) (lit< tt)
+    (c.used_terms.ensures z.class z.k c.requires.rows.0 (first-half z.class z.k)) c.small_sums.ensures c.least_sum-low.ensures)
 
 high : (c : After-least_sum-high) → IsLeastSum 8 (λ x. sums c (8 + x)) c.least_sum-high.result
 high c =
-    let s = start c in
-    let z = s.args.sizes in
-    word-least z.class z.k (at s.args.lanes.now) s.args.j 1 3 _ _ _ (second-half s) (lit< tt)
-    (c.used_terms-2.ensures z.class z.k s.pre.0.0 (second-half s)) c.small_sums-2.ensures c.least_sum-high.ensures
+    let z = c.args.sizes in
+    word-least z.class z.k (at c.args.lanes.now) c.args.j 1 3 _ _ _ (second-half (goal.at.After-least_sum-high c).Start) (lit< tt)
+    (c.used_terms-2.ensures z.class z.k c.requires.rows.0 (second-half (goal.at.After-least_sum-high c).Start)) c.small_sums-2.ensures c.least_sum-high.ensures
 
 pub lesser-requires : goal.lesser-requires
-lesser-requires c = least_lt 8 (lit< tt) _ _ (high c)
+lesser-requires c = least_lt 8 (lit< tt) _ _ (high (goal.at.lesser-requires c).After-least_sum-high)
 
 -- the first least of all choices
 least : (c : After-lesser) → let a = c.args in IsLeastSum (choices a.sizes.class a.sizes.k) (sums (goal.at.After-lesser c).After-least_sum-high) c.lesser.result
@@ -45,12 +43,10 @@ least c = rw c.requires.limits.1 (c.lesser.ensures (sums (goal.at.After-lesser c
 
 pub charged-requires : goal.charged-requires
 charged-requires c =
-    let s = start (goal.at.charged-requires c).After-least_sum-high in
-    let z = s.args.sizes in
-    (s.pre.0.1, least-small z.class z.k (at s.args.lanes.now) s.args.j (few z s.pre.1.0) _ (least c))
+    let z = c.args.sizes in
+    (c.requires.rows.1, least-small z.class z.k (at c.args.lanes.now) c.args.j (few z c.requires.limits.0) _ (least (goal.at.charged-requires c).After-lesser))
 
 pub returns : goal.returns
 returns c =
-    let s = start (goal.at.returns c).After-least_sum-high in
-    let z = s.args.sizes in
-    sum-cheapest z.class z.k (at s.args.lanes.now) s.args.j (few z s.pre.1.0) _ (least (goal.at.returns c).After-lesser) z.family _ c.charged.ensures
+    let z = c.args.sizes in
+    sum-cheapest z.class z.k (at c.args.lanes.now) c.args.j (few z c.requires.limits.0) _ (least (goal.at.returns c).After-lesser) z.family _ c.charged.ensures

@@ -8,6 +8,7 @@ use lib.Bits.{mask_lt}
 use Rattle.numbers.specs.Words.{byte}
 use Rattle.charges.proofs.cheapest.Choices.{SumsTried, Shifted, count-pos, shifted-first, shifted-byte, shifted-more, tried-first, tried-take, tried-keep, tried-all, pair_lt}
 use Rattle.charges.proofs.cheapest.least_masked.Goals as goal
+use Rattle.charges.proofs.cheapest.least_masked.Goals.{then-masked-least, else-masked-least}
 
 pub overflow_sub-left : goal.overflow_sub-left
 overflow_sub-left c = count-pos _ c.requires
@@ -33,7 +34,7 @@ loop-left-preserved c =
     let first = shifted-byte _ _ _ _ turn tried.some l.invariant.1 in
     let second = shifted-byte _ _ _ _ turn tried.some l.invariant.2 in
     let e = c.joined-masked.ensures ∙ ap₂ (λ (x y : ℕ). x * 256 + y) first second in (
-      ⊎_elim (λ w. rw w.1 (tried-take _ _ _ _ _ _ _ turn tried e w.0.taken)) (λ w. rw w.1 (tried-keep _ _ _ _ _ _ _ turn tried e w.0.left)) c.if-masked-least.branch,
+      elim c.if-masked-least.branch [ then-masked-least w ↦ rw w.least-is (tried-take _ _ _ _ _ _ _ turn tried e w.if-masked-least.true) | else-masked-least w ↦ rw w.least-is (tried-keep _ _ _ _ _ _ _ turn tried e w.if-masked-least.false) ],
       shifted-more _ _ _ _ turn tried.some l.invariant.1,
       shifted-more _ _ _ _ turn tried.some l.invariant.2,
     )

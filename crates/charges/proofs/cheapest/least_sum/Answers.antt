@@ -9,6 +9,7 @@ use Rattle.numbers.specs.Words.{byte}
 use Rattle.numbers.proofs.Words.{byte-zero, byte-lt}
 use Rattle.charges.proofs.cheapest.Choices.{SumsTried, Shifted, count-pos, shifted-first, shifted-byte, shifted-more, tried-first, tried-take, tried-keep, tried-all}
 use Rattle.charges.proofs.cheapest.least_sum.Goals as goal
+use Rattle.charges.proofs.cheapest.least_sum.Goals.{then-sum-least, else-sum-least}
 
 pub overflow_cast-least : goal.overflow_cast-least
 overflow_cast-least c = omega (arith, mask_lt c.args.sums 8)
@@ -35,7 +36,7 @@ loop-left-preserved c =
     let turn = c.loop-left-test.true in
     let tried = l.invariant.0 in
     let e = and_mask l.rest 8 ∙ sym (byte-zero l.rest) ∙ shifted-byte _ _ _ _ turn tried.some l.invariant.1 in (
-      ⊎_elim (λ w. rw w.1 (tried-take _ _ _ _ _ _ _ turn tried e w.0.taken)) (λ w. rw w.1 (tried-keep _ _ _ _ _ _ _ turn tried e w.0.left)) c.if-sum-least.branch,
+      elim c.if-sum-least.branch [ then-sum-least w ↦ rw w.least-is (tried-take _ _ _ _ _ _ _ turn tried e w.if-sum-least.true) | else-sum-least w ↦ rw w.least-is (tried-keep _ _ _ _ _ _ _ turn tried e w.if-sum-least.false) ],
       shifted-more _ _ _ _ turn tried.some l.invariant.1,
     )
 

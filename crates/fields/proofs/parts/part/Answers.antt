@@ -45,8 +45,8 @@ loop-left-preserved c =
 pub slice_bounds-result-count : goal.slice_bounds-result-count
 slice_bounds-result-count c = omega arith
 
-pub slice_bounds-result-end : goal.slice_bounds-result-end
-slice_bounds-result-end c =
+pub slice_bounds-result-end-2 : goal.slice_bounds-result-end-2
+slice_bounds-result-end-2 c =
     let a = c.args in
     let l = c.loop-left in
     omega (arith, stop_le a.separator a.text.now l.cursor.at l.invariant.0)

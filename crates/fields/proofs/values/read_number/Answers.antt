@@ -13,13 +13,13 @@ use Rattle.fields.proofs.values.read_number.Goals as goal
 
 pub returns-then-not-well_formed : goal.returns-then-not-well_formed
 unfolding number
-returns-then-not-well_formed c = rw (← c.well-formed-2.ensures, not-true c.well-formed-2.result c.if-not-well_formed.true-raw)
+returns-then-not-well_formed c = rw (← c.well_formed-2.ensures, not-true c.well_formed-2.result c.if-not-well_formed.true-raw)
 
 pub loop-k-init : goal.loop-k-init
 unfolding number
 loop-k-init c =
     let a = c.args in
-    let right : well_formed a.most a.field.now ≡ true = sym c.well-formed-2.ensures ∙ not-false _ c.if-not-well_formed.false-raw in
+    let right : well_formed a.most a.field.now ≡ true = sym c.well_formed-2.ensures ∙ not-false _ c.if-not-well_formed.false-raw in
     (zero-le, omega (arith, well_formed-le a.most a.field.now right), lit< tt, rw right)
 
 pub returns-in_default : goal.returns-in_default

@@ -13,4 +13,4 @@ slice_bounds-check-end-2 c = sym (length-take-le _ _ c.judged_length-other.ensur
 
 pub returns : goal.returns
 returns c =
-    print-holds _ _ _ _ _ _ _ c.judged-length.ensures.1 c.judged-length2.ensures.1 c.check.ensures c.write_answer-length.ensures
+    print-holds _ _ _ _ _ _ _ c.judged_length-judged.ensures.1 c.judged_length-other.ensures.1 c.check.ensures c.write_answer-length.ensures

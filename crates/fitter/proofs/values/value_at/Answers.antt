@@ -12,6 +12,7 @@ use Rattle.numbers.specs.Tests.{only}
 use Rattle.numbers.proofs.Shifts.{one_shifted, points-le}
 use Rattle.algebra.specs.Terms.{holds, value}
 use Rattle.fitter.proofs.values.value_at.Goals as goal
+use Rattle.fitter.proofs.values.value_at.Goals.{then-holds, else-holds}
 use Rattle.fitter.proofs.values.value_at.Goals.{In-loop-t}
 
 -- the term under trial is one of n inputs
@@ -45,10 +46,10 @@ loop-t-preserved c =
     let test : c.holds.result ≡ holds l.t (at a.complements.now l.t) a.p =
     c.holds.ensures ∙ ap (λ (x : ℕ). holds l.t x a.p) w in (
       omega (arith, term-lt (goal.at.loop-t-preserved c).In-loop-t),
-      ⊎_elim
-          (λ h. h.2 ∙ rw (add-one, sym test ∙ h.0.taken) (ap (λ (x : ℕ). bit_xor x (at a.coefficients.now l.t)) l.invariant.1))
-          (λ h. h.1 ∙ l.invariant.1 ∙ rw (add-one, sym test ∙ h.0.left) (sym (xor_zero_r _)))
-          c.if-holds.branch,
+      elim c.if-holds.branch [
+        | then-holds w ↦ w.value-is ∙ rw (add-one, sym test ∙ w.if-holds.true) (ap (λ (x : ℕ). bit_xor x (at a.coefficients.now l.t)) l.invariant.1)
+        | else-holds w ↦ w.value-is ∙ l.invariant.1 ∙ rw (add-one, sym test ∙ w.if-holds.false) (sym (xor_zero_r _))
+      ],
     )
 
 pub returns : goal.returns

@@ -21,29 +21,31 @@ lay_out-requires c =
 pub slice_bounds-laid-end-2 : goal.slice_bounds-laid-end-2
 slice_bounds-laid-end-2 c =
     let laid = c.lay_out in
-    room-fits-again 8 c.args.sizes (omega arith) c.requires.limits laid.new.1.1.1.0 _ (ap length laid.ensures.0 ∙ length-tabulate _ _)
+    room-fits-again 8 c.args.sizes (omega arith) c.requires.limits laid.new.lanes _ (ap length laid.ensures.lanes_after ∙ length-tabulate _ _)
 
 pub slice_bounds-expand_lanes-end : goal.slice_bounds-expand_lanes-end
 slice_bounds-expand_lanes-end c =
     let laid = c.lay_out in
-    room-counted-again 8 c.args.sizes (omega arith) c.requires.limits laid.new.1.1.1.0 _ (ap length laid.ensures.0 ∙ length-tabulate _ _)
+    room-counted-again 8 c.args.sizes (omega arith) c.requires.limits laid.new.lanes _ (ap length laid.ensures.lanes_after ∙ length-tabulate _ _)
 
 pub expand_lanes-requires : goal.expand_lanes-requires
 expand_lanes-requires c =
     let laid = c.lay_out in
-    let long = ap length laid.ensures.0 ∙ length-tabulate _ _ in (
+    let long = ap length laid.ensures.lanes_after ∙ length-tabulate _ _ in (
       blocks-le c.args.sizes c.requires.limits,
       closed-lt c.args.sizes c.args.pair.mixed _ _ _ c.requires.mixed_set c.outside.ensures c.gather-w.ensures.value,
-      ap length (room-kept 8 c.args.sizes (omega arith) c.requires.limits laid.new.1.1.1.0 _ long) ∙ long,
+      ap length (room-kept 8 c.args.sizes (omega arith) c.requires.limits laid.new.lanes _ long) ∙ long,
       c.requires.table_len.1,
     )
 
 pub returns : goal.returns
 returns c =
     let laid = c.lay_out in
-    let long = ap length laid.ensures.0 ∙ length-tabulate _ _ in
-    let kept = room-kept 8 c.args.sizes (omega arith) c.requires.limits laid.new.1.1.1.0 _ long in
+    let long = ap length laid.ensures.lanes_after ∙ length-tabulate _ _ in
+    let kept = room-kept 8 c.args.sizes (omega arith) c.requires.limits laid.new.lanes _ long in
     let others = c.outside.ensures in
     let fixed = c.gather-w.ensures.value in
-    blocks-both c.args.sizes c.args.pair.mixed _ _ _ c.requires.mixed_set others fixed c.args.table.now _ _ _ kept laid.ensures
-    c.expand_lanes.ensures
+    let b =
+    blocks-both c.args.sizes c.args.pair.mixed _ _ _ c.requires.mixed_set others fixed c.args.table.now _ _ _ kept (laid.ensures.lanes_after, laid.ensures.places)
+    c.expand_lanes.ensures in
+    record { lanes_after = b.0; functions = b.1 }

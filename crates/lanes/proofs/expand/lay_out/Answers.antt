@@ -34,20 +34,20 @@ open_out-requires c =
 pub slice_bounds-points-end-2 : goal.slice_bounds-points-end-2
 slice_bounds-points-end-2 c =
     let o = c.open_out in
-    let long = opened-long c.args.sizes c.args.mixed _ o.new.1.1.0 c.requires.limits c.outside.ensures o.ensures in
-    room-fits-again 1 c.args.sizes (omega arith) c.requires.limits o.new.1.1.0 _ long
+    let long = opened-long c.args.sizes c.args.mixed _ o.new.points c.requires.limits c.outside.ensures o.ensures in
+    room-fits-again 1 c.args.sizes (omega arith) c.requires.limits o.new.points _ long
 
 pub slice_bounds-fill_lanes-end : goal.slice_bounds-fill_lanes-end
 slice_bounds-fill_lanes-end c =
     let o = c.open_out in
-    let long = opened-long c.args.sizes c.args.mixed _ o.new.1.1.0 c.requires.limits c.outside.ensures o.ensures in
-    room-counted-again 1 c.args.sizes (omega arith) c.requires.limits o.new.1.1.0 _ long
+    let long = opened-long c.args.sizes c.args.mixed _ o.new.points c.requires.limits c.outside.ensures o.ensures in
+    room-counted-again 1 c.args.sizes (omega arith) c.requires.limits o.new.points _ long
 
 pub fill_lanes-requires : goal.fill_lanes-requires
 fill_lanes-requires c =
     let o = c.open_out in
     let others = c.outside.ensures in
-    let first = opened-kept c.args.sizes c.args.mixed _ o.new.1.1.0 c.requires.limits others o.ensures _ in
+    let first = opened-kept c.args.sizes c.args.mixed _ o.new.points c.requires.limits others o.ensures _ in
     let places = c.open_out-2.ensures in (
       c.requires.table_len.1 ∙ ap (λ (x : ℕ). 8 * x) (sym (points-long c.args.sizes c.args.mixed _ _ c.requires.mixed_set first places)),
       λ q p hq hp. points-room c.args.sizes c.args.mixed _ _ c.requires.mixed_set first places _ q p c.requires.table_len.0 hq hp,
@@ -57,8 +57,10 @@ pub returns : goal.returns
 returns c =
     let o = c.open_out in
     let others = c.outside.ensures in
-    let first = opened-kept c.args.sizes c.args.mixed _ o.new.1.1.0 c.requires.limits others o.ensures _ in
+    let first = opened-kept c.args.sizes c.args.mixed _ o.new.points c.requires.limits others o.ensures _ in
     let places = c.open_out-2.ensures in
+    let w =
     in_words c.args.sizes c.args.mixed c.args.table.now _ c.requires.limits c.requires.mixed_set
     (c.fill_lanes.ensures
-    ∙ laid_out c.args.sizes c.args.mixed _ _ c.requires.mixed_set first places c.args.table.now _ c.requires.table_len.1)
+    ∙ laid_out c.args.sizes c.args.mixed _ _ c.requires.mixed_set first places c.args.table.now _ c.requires.table_len.1) in
+    record { lanes_after = w.0; places = w.1 }

@@ -5,4 +5,5 @@ use Rattle.lanes.proofs.expand.next_polarity.Goals as goal
 
 pub returns : goal.returns
 returns c =
-    lanes-turned c.args.r c.args.w c.args.lanes.now _ c.requires.0 c.requires.2 c.change_polarity.ensures
+    let t = lanes-turned c.args.r c.args.w c.args.lanes.now _ c.requires.0 c.requires.2 c.change_polarity.ensures in
+    record { by_index = t.0; every = t.1 }

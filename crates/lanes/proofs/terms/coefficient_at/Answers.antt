@@ -52,9 +52,9 @@ pub coefficient_in-requires : goal.coefficient_in-requires
 coefficient_in-requires c =
     let p = c.requires in (
       block-small (goal.at.coefficient_in-requires c).After-split-parts,
-      omega (arith, block-below (goal.at.coefficient_in-requires c).After-split-parts, p.1.1.0.1),
-      omega (arith, place-below (goal.at.coefficient_in-requires c).After-split-parts, pow_mono {i = c.args.sizes.k} {j = 3} (few c.args.sizes p.1.0)),
-      held-few (apart c.args.sizes.class c.args.sizes.k) _ (p.1.1.1 c.split-parts.result.block),
+      omega (arith, block-below (goal.at.coefficient_in-requires c).After-split-parts, p.mixed_set.1),
+      omega (arith, place-below (goal.at.coefficient_in-requires c).After-split-parts, pow_mono {i = c.args.sizes.k} {j = 3} (few c.args.sizes p.limits)),
+      held-few (apart c.args.sizes.class c.args.sizes.k) _ (p.by_index c.split-parts.result.block),
     )
 
 pub returns : goal.returns

@@ -42,7 +42,7 @@ put_row-requires c =
 
 pub next_line-requires : goal.next_line-requires
 next_line-requires c =
-    omega (arith, before-end (goal.at.next_line-requires c).Else-to-text, c.requires.0.counted, c.well-formed)
+    omega (arith, before-end (goal.at.next_line-requires c).Else-to-text, c.requires.0.counted, c.well_formed)
 
 pub overflow_add-result : goal.overflow_add-result
 overflow_add-result c =

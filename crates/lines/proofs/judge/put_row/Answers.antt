@@ -11,13 +11,13 @@ pub returns-then-n-at : goal.returns-then-n-at
 returns-then-n-at c =
     let a = c.args in
     let high : 2 ^ a.n ≤ a.at = omega (arith, one_shifted a.n (omega arith), c.if-n-at.true) in
-    rw (le-ltb a.at (2 ^ a.n) high) (refl, refl)
+    rw (le-ltb a.at (2 ^ a.n) high) record { value = refl; rows_after = refl }
 
 pub returns-then-at-least : goal.returns-then-at-least
 returns-then-at-least c =
     let a = c.args in
     let low : a.at < 2 ^ a.n = omega (arith, one_shifted a.n (omega arith), c.if-n-at.false) in
-    rw (lt-ltb a.at (2 ^ a.n) low, lt-leb a.least a.at c.if-at-least.true) (refl, refl)
+    rw (lt-ltb a.at (2 ^ a.n) low, lt-leb a.least a.at c.if-at-least.true) record { value = refl; rows_after = refl }
 
 pub offset_bounds-rows-at : goal.offset_bounds-rows-at
 offset_bounds-rows-at c =
@@ -33,4 +33,4 @@ pub returns : goal.returns
 returns c =
     let a = c.args in
     let low : a.at < 2 ^ a.n = omega (arith, one_shifted a.n (omega arith), c.if-n-at.false) in
-    rw (lt-ltb a.at (2 ^ a.n) low, le-leb a.least a.at c.if-at-least.false) (refl, refl)
+    rw (lt-ltb a.at (2 ^ a.n) low, le-leb a.least a.at c.if-at-least.false) record { value = refl; rows_after = refl }

@@ -35,10 +35,12 @@ pub returns-in-Passed : goal.returns-in-Passed
 unfolding stands_for handed_up
 returns-in-Passed c =
     let read = rw c.in-Passed.is at c.judge_listing.ensures in
-    is_handed_up _ _ _ (c.shown_listing.ensures ∙ ap (handed_up c.args.sizes) read)
+    let h = is_handed_up _ _ _ (c.shown_listing.ensures ∙ ap (handed_up c.args.sizes) read) in
+    record { reading = h.0; had_back = h.1 }
 
 pub returns-in-Refused : goal.returns-in-Refused
 unfolding stands_for handed_up
 returns-in-Refused c =
     let read = rw c.in-Refused.is at c.judge_listing.ensures in
-    is_handed_up _ _ _ (rw c.empty.ensures (ap (handed_up c.args.sizes) read))
+    let h = is_handed_up _ _ _ (rw c.empty.ensures (ap (handed_up c.args.sizes) read)) in
+    record { reading = h.0; had_back = h.1 }

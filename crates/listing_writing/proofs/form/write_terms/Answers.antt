@@ -17,11 +17,8 @@ use Rattle.numbers.proofs.Shifts.{one_shifted, points-le}
 use native.Mathlib.Omega.{arith}
 use Rattle.listing_writing.specs.declared.form.Member.{Member}
 use Rattle.listing_writing.proofs.form.write_terms.Goals as goal
+use Rattle.listing_writing.proofs.form.write_terms.Invariants.{polarity_in}
 use Rattle.listing_writing.proofs.form.write_terms.Goals.{Start}
-
--- the polarity of each term
-abbrev polarity_in : Member → List ℕ → ℕ → ℕ
-polarity_in e blocks = polarity e.class e.n e.k e.mixed e.fixed (at blocks)
 
 -- the masks are of n inputs
 fits : (s : Start) (t : ℕ)

@@ -8,4 +8,5 @@ use Rattle.mipaldoz.proofs.check.mipaldoz_check.Goals as goal
 pub returns : goal.returns
 returns c =
     let called = c.check in
-    answer-told check_numbers (Check _ _) called.result _ _ called.ensures.answer called.ensures c.check_numbers.ensures
+    let t = answer-told check_numbers (Check _ _) called.result _ _ called.ensures.answer called.ensures c.check_numbers.ensures in
+    record { meaning = t.0; answer = t.1 }

@@ -8,4 +8,5 @@ use Rattle.mipaldoz.proofs.transforms.mipaldoz_forward.Goals as goal
 pub returns : goal.returns
 returns c =
     let called = c.forward in
-    answer-told transform_numbers (Forward _ _ _ _ _ _) called.result _ _ called.ensures.answer called.ensures c.answer_numbers.ensures
+    let t = answer-told transform_numbers (Forward _ _ _ _ _ _) called.result _ _ called.ensures.answer called.ensures c.answer_numbers.ensures in
+    record { meaning = t.0; answer = t.1 }

@@ -19,7 +19,7 @@ pub try_mixed-next-requires : goal.try_mixed-next-requires
 try_mixed-next-requires c =
     let p = c.requires in
     let l = c.loop-mixed in
-    record { rows = p.0; limits = p.1.0; given = p.1.1; mixed_bound = (omega (arith, c.loop-mixed-test.true, l.invariant.0), l.invariant.2) }
+    record { rows = p.rows; limits = p.limits; given = p.given; mixed_bound = (omega (arith, c.loop-mixed-test.true, l.invariant.0), l.invariant.2) }
 
 pub loop-mixed-preserved : goal.loop-mixed-preserved
 loop-mixed-preserved c =

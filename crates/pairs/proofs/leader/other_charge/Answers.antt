@@ -7,7 +7,7 @@ use Rattle.pairs.proofs.leader.other_charge.Goals as goal
 pub cheapest_apart-least-requires : goal.cheapest_apart-least-requires
 cheapest_apart-least-requires c =
     let p = c.requires in
-    record { rows = (p.0.0, p.0.2, p.0.3); limits = (p.1.0, sym p.1.1 ∙ c.if-both.true) }
+    record { rows = (p.rows.0, p.rows.2, p.rows.3); limits = (p.limits.0, sym p.limits.1 ∙ c.if-both.true) }
 
 pub returns-then-both : goal.returns-then-both
 returns-then-both c =
@@ -16,7 +16,7 @@ returns-then-both c =
 pub cheapest_block-least-requires : goal.cheapest_block-least-requires
 cheapest_block-least-requires c =
     let p = c.requires in
-    record { rows = (p.0.0, p.0.2, p.0.3); limits = (p.1.0, sym p.1.1 ∙ c.if-both.false) }
+    record { rows = (p.rows.0, p.rows.2, p.rows.3); limits = (p.limits.0, sym p.limits.1 ∙ c.if-both.false) }
 
 pub returns : goal.returns
 returns c =

@@ -20,7 +20,7 @@ other_charge-others-requires c =
     let p = c.requires in
     let l = c.loop-j in
     let few = blocks-few _ _ _ _ _ c.loop-j-test.true l.invariant in
-    record { rows = (p.0, l.invariant.some, few, omega (arith, p.1.1, l.invariant.all)); limits = p.1.0 }
+    record { rows = (p.rows, l.invariant.some, few, omega (arith, p.lanes_len, l.invariant.all)); limits = p.limits }
 
 pub overflow_add-others : goal.overflow_add-others
 overflow_add-others c =

@@ -17,7 +17,7 @@ cheapest_first-first-requires c =
 pub others_charge-requires : goal.others_charge-requires
 others_charge-requires c =
     let p = c.requires in
-    record { rows = p.0; limits = (p.1.0, sym c.if-apart.true ∙ c.apart.ensures); lanes_len = p.1.1 }
+    record { rows = p.rows; limits = (p.limits, sym c.if-apart.true ∙ c.apart.ensures); lanes_len = p.lanes_len }
 
 -- the sum, where the terms of a block choose apart
 sum : (c : After-others_charge) → let a = c.args in
@@ -39,7 +39,7 @@ returns-then-apart c = sum (goal.at.returns-then-apart c).After-others_charge
 pub others_charge-requires-2 : goal.others_charge-requires-2
 others_charge-requires-2 c =
     let p = c.requires in
-    record { rows = p.0; limits = (p.1.0, sym c.if-apart.false ∙ c.apart.ensures); lanes_len = p.1.1 }
+    record { rows = p.rows; limits = (p.limits, sym c.if-apart.false ∙ c.apart.ensures); lanes_len = p.lanes_len }
 
 -- and where they do not
 sum-2 : (c : After-others_charge-2) → let a = c.args in

@@ -18,6 +18,6 @@ slice_bounds-try_polarities-end c = room-counted 8 c.args.sizes (omega arith) c.
 
 pub try_polarities-requires : goal.try_polarities-requires
 try_polarities-requires c =
-    let p = c.requires.1 in
+    let p = c.requires in
     let size = sym c.ones_in.ensures ∙ c.if-ones_in-sizes.false in
-    record { rows = c.requires.rows; limits = p.0; given = p.1.0; mixed_set = (record { mask = p.1.1.0; size = size }, room-lent 8 c.args.sizes (omega arith) p.0); leads = p.1.1.1 }
+    record { rows = c.requires.rows; limits = p.limits; given = p.given; mixed_set = (record { mask = p.mixed_bound.0; size = size }, room-lent 8 c.args.sizes (omega arith) p.limits); leads = p.mixed_bound.1 }

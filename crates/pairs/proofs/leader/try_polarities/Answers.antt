@@ -10,18 +10,18 @@ use Rattle.pairs.proofs.leader.Trying.{Trying, trying-none, trying-next, trying-
 use Rattle.pairs.proofs.leader.try_polarities.Goals as goal
 
 pub expand_blocks-requires : goal.expand_blocks-requires
-expand_blocks-requires c = let p = c.requires.1 in record { limits = p.0; mixed_set = p.1.1.0.0; table_len = (p.1.0.long, p.1.1.0.1) }
+expand_blocks-requires c = let p = c.requires in record { limits = p.limits; mixed_set = p.mixed_set.0; table_len = (p.given.long, p.mixed_set.1) }
 
 pub loop-w-init : goal.loop-w-init
 loop-w-init c =
-    let p = c.requires.1 in
+    let p = c.requires in
     let e = c.expand_blocks in
-    trying-none _ _ _ _ _ _ (one_shifted _ (omega (arith, blocks-le c.args.sizes p.0))) (e.auto.1.1.1.0 ∙ p.1.1.0.1) e.ensures.0 p.1.1.1
+    trying-none _ _ _ _ _ _ (one_shifted _ (omega (arith, blocks-le c.args.sizes p.limits))) (e.auto.lanes ∙ p.mixed_set.1) e.ensures.lanes_after p.leads
 
 pub try_polarity-next-requires : goal.try_polarity-next-requires
 try_polarity-next-requires c =
     let p = c.requires in
-    record { rows = p.0; limits = p.1.0; mixed_bound = (p.1.1.1.0.0.mask, c.loop-w.invariant.long) }
+    record { rows = p.rows; limits = p.limits; mixed_bound = (p.mixed_set.0.mask, c.loop-w.invariant.long) }
 
 pub next_polarity-requires : goal.next_polarity-requires
 next_polarity-requires c =
@@ -36,12 +36,12 @@ overflow_add-w c =
 
 pub loop-w-preserved : goal.loop-w-preserved
 loop-w-preserved c =
-    let p = c.requires.1 in
+    let p = c.requires in
     let l = c.loop-w in
     let less = c.loop-w-test.true in
     let next = c.next_polarity in
-    trying-next c.args.sizes c.args.mixed c.args.table.now _ _ _ _ p.1.1.0.0 l.invariant p.0 p.1.0 less _ _
-    c.try_polarity-next.ensures next.auto.1.1.0 next.ensures.0
+    trying-next c.args.sizes c.args.mixed c.args.table.now _ _ _ _ p.mixed_set.0 l.invariant p.limits p.given less _ _
+    c.try_polarity-next.ensures next.auto.lanes next.ensures.by_index
 
 pub returns : goal.returns
 returns c =

@@ -33,5 +33,7 @@ overflow_add-result-2 c = omega (arith, sums-fit c)
 pub returns : goal.returns
 returns c =
     let a = c.args in
+    let o =
     opened a.n a.mask a.x _
-    (λ y e. ap₂ (λ (x o : ℕ). bit_and (x + o + 1) a.mask) e c.outside.ensures ∙ spread-suc a.n a.mask y c.requires.1)
+    (λ y e. ap₂ (λ (x o : ℕ). bit_and (x + o + 1) a.mask) e c.outside.ensures ∙ spread-suc a.n a.mask y c.requires.1) in
+    record { by_index = o.0; bits = o.1 }

@@ -34,4 +34,5 @@ pub returns : goal.returns
 returns c =
     let l = c.loop-b in
     let a = c.args in
-    opened a.n a.mask a.y _ (l.invariant.1 ∙ ap (λ (b : ℕ). spread b a.mask a.y) (passed-all _ _ _ _ c.loop-b-test.false l.invariant.0))
+    let o = opened a.n a.mask a.y _ (l.invariant.1 ∙ ap (λ (b : ℕ). spread b a.mask a.y) (passed-all _ _ _ _ c.loop-b-test.false l.invariant.0)) in
+    record { value = o.0; bits = o.1 }

@@ -10,8 +10,7 @@ use Rattle.quote_text.proofs.print.write_quotation.Goals as goal
 
 pub write_line-stop-requires : goal.write_line-stop-requires
 write_line-stop-requires c =
-    let r = c.answer-1.given.0 in
-    (omega arith, omega (arith, digits_of-le (r.0 ∷ r.1.0 ∷ r.1.1.0 ∷ [])))
+    (omega arith, omega (arith, digits_of-le (c.in-Given.products ∷ c.in-Given.literals ∷ c.in-Given.length ∷ [])))
 
 pub returns-in-Given : goal.returns-in-Given
 unfolding quotation_line bytes

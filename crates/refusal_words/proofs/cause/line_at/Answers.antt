@@ -7,3 +7,7 @@ use Rattle.refusal_words.proofs.cause.line_at.Goals as goal
 pub returns-then-line-eq0 : goal.returns-then-line-eq0
 unfolding line_at
 returns-then-line-eq0 c = c.part.ensures ∙ rw c.if-line-eq0.true
+
+pub returns : goal.returns
+unfolding line_at
+returns c = search rules

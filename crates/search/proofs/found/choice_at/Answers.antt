@@ -50,7 +50,7 @@ bounds c =
 pub cheapest_apart-least-requires : goal.cheapest_apart-least-requires
 cheapest_apart-least-requires c =
     let p = c.requires in
-    record { rows = (p.0, (bounds (goal.at.cheapest_apart-least-requires c).Else-j-eq0).0, (bounds (goal.at.cheapest_apart-least-requires c).Else-j-eq0).1); limits = (p.1.0, sym c.apart.ensures ∙ c.if-apart.true) }
+    record { rows = (p.rows, (bounds (goal.at.cheapest_apart-least-requires c).Else-j-eq0).0, (bounds (goal.at.cheapest_apart-least-requires c).Else-j-eq0).1); limits = (p.limits, sym c.apart.ensures ∙ c.if-apart.true) }
 
 -- the first least choice by either charge is the same
 other : (c : Else-j-eq0) (x : ℕ) → let a = c.args in let z = a.sizes in
@@ -70,7 +70,7 @@ returns-then-apart c = other (goal.at.returns-then-apart c).Else-j-eq0 _ c.cheap
 pub cheapest_block-least-requires : goal.cheapest_block-least-requires
 cheapest_block-least-requires c =
     let p = c.requires in
-    record { rows = (p.0, (bounds (goal.at.cheapest_block-least-requires c).Else-j-eq0).0, (bounds (goal.at.cheapest_block-least-requires c).Else-j-eq0).1); limits = (p.1.0, sym c.apart.ensures ∙ c.if-apart.false) }
+    record { rows = (p.rows, (bounds (goal.at.cheapest_block-least-requires c).Else-j-eq0).0, (bounds (goal.at.cheapest_block-least-requires c).Else-j-eq0).1); limits = (p.limits, sym c.apart.ensures ∙ c.if-apart.false) }
 
 pub returns : goal.returns
 returns c = other (goal.at.returns c).Else-j-eq0 _ c.cheapest_block-least.ensures.choice

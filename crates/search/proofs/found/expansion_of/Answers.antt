@@ -25,7 +25,7 @@ abbrev lanes : After-expand_blocks → List ℕ
 lanes c = c.expand_blocks.new.lanes
 
 long : (c : After-expand_blocks) → length (lanes c) ≡ 8 * 2 ^ (c.args.sizes.n - c.args.sizes.k)
-long c = c.expand_blocks.auto.1.1.1.0 ∙ room-lent 8 _ (omega arith) c.requires.limits
+long c = c.expand_blocks.auto.lanes ∙ room-lent 8 _ (omega arith) c.requires.limits
 
 pub overflow_sub-fixed : goal.overflow_sub-fixed
 overflow_sub-fixed c =
@@ -53,8 +53,7 @@ slice_bounds-block_choices-end c =
 
 pub block_choices-chosen-requires : goal.block_choices-chosen-requires
 block_choices-chosen-requires c =
-    let s = start (goal.at.block_choices-chosen-requires c).After-expand_blocks in
-    record { rows = s.pre.0; limits = s.pre.1.0; lanes_len = ap length (room-kept 8 _ (omega arith) s.pre.1.0 (lanes (goal.at.block_choices-chosen-requires c).After-expand_blocks) _ (long (goal.at.block_choices-chosen-requires c).After-expand_blocks)) ∙ long (goal.at.block_choices-chosen-requires c).After-expand_blocks }
+    record { rows = c.requires.rows; limits = c.requires.limits; lanes_len = ap length (room-kept 8 _ (omega arith) c.requires.limits (lanes (goal.at.block_choices-chosen-requires c).After-expand_blocks) _ (long (goal.at.block_choices-chosen-requires c).After-expand_blocks)) ∙ long (goal.at.block_choices-chosen-requires c).After-expand_blocks }
 
 pub slice_bounds-lanes-end-3 : goal.slice_bounds-lanes-end-3
 slice_bounds-lanes-end-3 c =
@@ -66,16 +65,14 @@ slice_bounds-coefficients-end c =
 
 pub coefficients-filled-requires : goal.coefficients-filled-requires
 coefficients-filled-requires c =
-    let s = start (goal.at.coefficients-filled-requires c).After-expand_blocks in
-    let p = s.pre.1 in
-    let kept = room-kept 8 _ (omega arith) p.0 (lanes (goal.at.coefficients-filled-requires c).After-expand_blocks) _ (long (goal.at.coefficients-filled-requires c).After-expand_blocks) in
-    let chosen = blocks-lt _ _ _ _ _ p.0 p.1.0 p.1.1 (kept ∙ c.expand_blocks.ensures.lanes_after) c.block_choices-chosen.ensures in
-    record { rows = s.pre.0; limits = p.0; mixed_set = (set s, ap length kept ∙ long (goal.at.coefficients-filled-requires c).After-expand_blocks); by_index = chosen }
+    let p = c.requires in
+    let kept = room-kept 8 _ (omega arith) p.limits (lanes (goal.at.coefficients-filled-requires c).After-expand_blocks) _ (long (goal.at.coefficients-filled-requires c).After-expand_blocks) in
+    let chosen = blocks-lt _ _ _ _ _ p.limits p.given p.leads (kept ∙ c.expand_blocks.ensures.lanes_after) c.block_choices-chosen.ensures in
+    record { rows = c.requires.rows; limits = p.limits; mixed_set = (set (goal.at.coefficients-filled-requires c).Start, ap length kept ∙ long (goal.at.coefficients-filled-requires c).After-expand_blocks); by_index = chosen }
 
 pub returns : goal.returns
 returns c =
-    let s = start (goal.at.returns c).After-expand_blocks in
-    let p = s.pre.1 in
-    let kept = room-kept 8 _ (omega arith) p.0 (lanes (goal.at.returns c).After-expand_blocks) _ (long (goal.at.returns c).After-expand_blocks) in
+    let p = c.requires in
+    let kept = room-kept 8 _ (omega arith) p.limits (lanes (goal.at.returns c).After-expand_blocks) _ (long (goal.at.returns c).After-expand_blocks) in
     let choices = c.block_choices-chosen.ensures in
-    record-answer _ _ _ _ _ p.0 p.1.0 p.1.1 (kept ∙ c.expand_blocks.ensures.lanes_after) choices _ c.coefficients-filled.ensures _ _ c.counts_in-counts.ensures
+    record-answer _ _ _ _ _ p.limits p.given p.leads (kept ∙ c.expand_blocks.ensures.lanes_after) choices _ c.coefficients-filled.ensures _ _ c.counts_in-counts.ensures

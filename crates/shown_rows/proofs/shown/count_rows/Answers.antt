@@ -11,6 +11,7 @@ use Rattle.numbers.proofs.Shifts.{one_shifted, points-le}
 use Rattle.expansions.specs.Costs.{products, literals}
 use Rattle.shown_rows.proofs.shown.Counting.{Counting, count-start, count-product, count_none}
 use Rattle.shown_rows.proofs.shown.count_rows.Goals as goal
+use Rattle.shown_rows.proofs.shown.count_rows.Goals.{then-rows-t-ne0, else-rows-t-ne0}
 use Rattle.shown_rows.proofs.shown.count_rows.Goals.{In-loop-t}
 
 term-lt : (c : In-loop-t) → c.loop-t.t < 2 ^ c.args.n
@@ -56,12 +57,12 @@ pub loop-t-preserved : goal.loop-t-preserved
 loop-t-preserved c =
     let l = c.loop-t in
     let more : l.t + 1 ≤ 2 ^ c.args.n = omega (arith, term-lt (goal.at.loop-t-preserved c).In-loop-t) in
-    ⊎_elim
-    (λ h.
-    let literals = h.1.ensures ∙ ones_in-ones c.args.n l.t (term-lt (goal.at.loop-t-preserved c).In-loop-t) in
-    (more, rw (h.2, h.3) (count-product _ l.t l.products l.literals l.invariant.1 _ (λ e. h.0.taken (and_mask _ 8 ∙ e)) literals (few_ones (goal.at.loop-t-preserved c).In-loop-t))))
-    (λ h. (more, rw (h.1, h.2) (count_none _ l.t l.products l.literals l.invariant.1 (sym (and_mask _ 8) ∙ h.0.left))))
-    c.if-rows-t-ne0.branch
+    elim c.if-rows-t-ne0.branch [
+      | then-rows-t-ne0 w ↦
+          let literals = w.ones_in.ensures ∙ ones_in-ones c.args.n l.t (term-lt (goal.at.loop-t-preserved c).In-loop-t) in
+          (more, rw (w.products-is, w.literals-is) (count-product _ l.t l.products l.literals l.invariant.1 _ (λ e. w.if-rows-t-ne0.true (and_mask _ 8 ∙ e)) literals (few_ones (goal.at.loop-t-preserved c).In-loop-t)))
+      | else-rows-t-ne0 w ↦ (more, rw (w.products-is, w.literals-is) (count_none _ l.t l.products l.literals l.invariant.1 (sym (and_mask _ 8) ∙ w.if-rows-t-ne0.false)))
+    ]
 
 pub returns : goal.returns
 unfolding products literals

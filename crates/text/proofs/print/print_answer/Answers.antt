@@ -11,9 +11,9 @@ slice_bounds-compile-end c = sym (length-take-le _ _ c.judged_length-judged.ensu
 
 pub returns-in-Written : goal.returns-in-Written
 returns-in-Written c =
-    print-written _ _ _ _ _ c.judged-length.ensures.1 c.in-Written.is c.compile.ensures
+    print-written _ _ _ _ _ c.judged_length-judged.ensures.1 c.in-Written.is c.compile.ensures
 
 pub returns-in-Refused : goal.returns-in-Refused
 unfolding refused_line
 returns-in-Refused c =
-    print-refused _ _ _ _ _ _ _ _ c.judged-length.ensures.1 c.in-Refused.is c.compile.ensures c.write_refused-length.ensures
+    print-refused _ _ _ _ _ _ _ _ c.judged_length-judged.ensures.1 c.in-Refused.is c.compile.ensures c.write_refused-length.ensures
