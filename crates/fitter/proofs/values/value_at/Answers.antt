@@ -47,8 +47,8 @@ loop-t-preserved c =
     c.holds.ensures ∙ ap (λ (x : ℕ). holds l.t x a.p) w in (
       omega (arith, term-lt (goal.at.loop-t-preserved c).In-loop-t),
       elim c.if-holds.branch [
-        | then-holds w ↦ w.value-is ∙ rw (add-one, sym test ∙ w.if-holds.true) (ap (λ (x : ℕ). bit_xor x (at a.coefficients.now l.t)) l.invariant.1)
-        | else-holds w ↦ w.value-is ∙ l.invariant.1 ∙ rw (add-one, sym test ∙ w.if-holds.false) (sym (xor_zero_r _))
+        | then-holds w ↦ w.sum-is ∙ rw (add-one, sym test ∙ w.if-holds.true) (ap (λ (x : ℕ). bit_xor x (at a.coefficients.now l.t)) l.invariant.1)
+        | else-holds w ↦ w.sum-is ∙ l.invariant.1 ∙ rw (add-one, sym test ∙ w.if-holds.false) (sym (xor_zero_r _))
       ],
     )
 

@@ -59,7 +59,7 @@ loop-t-preserved c =
     let more : l.t + 1 ≤ 2 ^ c.args.n = omega (arith, term-lt (goal.at.loop-t-preserved c).In-loop-t) in
     elim c.if-rows-t-ne0.branch [
       | then-rows-t-ne0 w ↦
-          let literals = w.ones_in.ensures ∙ ones_in-ones c.args.n l.t (term-lt (goal.at.loop-t-preserved c).In-loop-t) in
+          let literals = w.ones_in-literals.ensures ∙ ones_in-ones c.args.n l.t (term-lt (goal.at.loop-t-preserved c).In-loop-t) in
           (more, rw (w.products-is, w.literals-is) (count-product _ l.t l.products l.literals l.invariant.1 _ (λ e. w.if-rows-t-ne0.true (and_mask _ 8 ∙ e)) literals (few_ones (goal.at.loop-t-preserved c).In-loop-t)))
       | else-rows-t-ne0 w ↦ (more, rw (w.products-is, w.literals-is) (count_none _ l.t l.products l.literals l.invariant.1 (sym (and_mask _ 8) ∙ w.if-rows-t-ne0.false)))
     ]
