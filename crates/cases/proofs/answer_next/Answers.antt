@@ -1,5 +1,4 @@
 -- `answer_next` is safe: the part of the buffer that is filled lies within it.
-use borrow.Author.Rules.{rules}
 use mathlib.Core.Path.{sym}
 use lib.Seq.{length-take-le}
 use native.Mathlib.Omega.{arith}

@@ -1,5 +1,4 @@
 -- `main` is safe and ends. The measure is the number of cases that may still come.
-use borrow.Author.Rules.{rules}
 use native.Mathlib.Omega.{arith}
 use Rattle.cases.proofs.main.Goals as goal
 

@@ -1,5 +1,3 @@
-use borrow.Author.Rules.{rules}
-use native.Mathlib.Omega.{arith}
 use Rattle.cases.proofs.main.Given as goal
 
 abbrev pub invariant-loop-left : goal.invariant-loop-left

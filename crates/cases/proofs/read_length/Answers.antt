@@ -1,5 +1,4 @@
 -- `read_length` is safe and ends. Nothing has to hold from turn to turn; the measure is the number of digits that may still come.
-use borrow.Author.Rules.{rules}
 use native.Mathlib.Omega.{arith}
 use Prim.Native.Nat.{◌-◌}
 use Rattle.cases.proofs.read_length.Goals as goal

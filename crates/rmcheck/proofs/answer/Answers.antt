@@ -1,7 +1,6 @@
 -- `answer` is safe: what is printed lies within the bytes that `print_check` hands out.
 use mathlib.Core.Path.{sym}
 use lib.Seq.{length-take-le}
-use borrow.Author.Rules.{rules}
 use Rattle.rmcheck.proofs.answer.Goals as goal
 
 pub slice_bounds-write_all-end : goal.slice_bounds-write_all-end

@@ -1,7 +1,6 @@
 -- `main` is safe: what is judged lies within the buffers, and the names within theirs.
 use mathlib.Core.Path.{sym}
 use lib.Seq.{length-take-le}
-use borrow.Author.Rules.{rules}
 use Rattle.rmcheck.proofs.main.Goals as goal
 
 pub slice_bounds-answer-end : goal.slice_bounds-answer-end

@@ -1,7 +1,6 @@
 -- `main` is safe: what is judged lies within the buffer, the name within its own, and what is printed within the bytes that are handed out.
 use mathlib.Core.Path.{sym}
 use lib.Seq.{length-take-le}
-use borrow.Author.Rules.{rules}
 use Rattle.rmquote.proofs.main.Goals as goal
 
 pub slice_bounds-print_quotation-end : goal.slice_bounds-print_quotation-end

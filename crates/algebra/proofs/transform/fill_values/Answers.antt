@@ -1,5 +1,4 @@
 -- `fill_values` meets its contract: the coefficients are joined in an array of 256, then moved into the table.
-use borrow.Author.Rules.{rules}
 use mathlib.Core.Path.{◌≡◌, ap, ◌∙◌}
 use mathlib.Core.List.{List}
 use Prim.Native.Nat.{ℕ, ◌+◌, ◌^◌, ◌≤◌}

@@ -1,5 +1,4 @@
 -- `half_step` meets its contract: byte by byte for the three lowest inputs, eight bytes at a time for the others.
-use borrow.Author.Rules.{rules}
 use mathlib.Core.Path.{◌≡◌}
 use Prim.Native.Nat.{suc, ◌+◌, ◌-◌}
 use native.Mathlib.Omega.{arith}

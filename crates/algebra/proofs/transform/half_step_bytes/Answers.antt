@@ -1,10 +1,8 @@
 -- `half_step_bytes` meets its contract: the half step has been done below base.
-use borrow.Author.Rules.{rules}
 use Prim.Native.Nat.{◌-◌}
 use native.Mathlib.Omega.{arith}
-use lib.ListN.{length}
 use lib.Pow.{pow_pos}
-use Rattle.algebra.proofs.transform.Halves.{HalvedTo, bytes-none, halved-room, halved-more, halved-all}
+use Rattle.algebra.proofs.transform.Halves.{bytes-none, halved-room, halved-more, halved-all}
 use Rattle.algebra.proofs.transform.half_step_bytes.Goals as goal
 
 pub loop-base-init : goal.loop-base-init

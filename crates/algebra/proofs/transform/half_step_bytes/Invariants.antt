@@ -1,9 +1,6 @@
-use borrow.Author.Rules.{rules}
 use Prim.Native.Nat.{◌-◌}
-use native.Mathlib.Omega.{arith}
 use lib.ListN.{length}
-use lib.Pow.{pow_pos}
-use Rattle.algebra.proofs.transform.Halves.{HalvedTo, bytes-none, halved-room, halved-more, halved-all}
+use Rattle.algebra.proofs.transform.Halves.{HalvedTo}
 use Rattle.algebra.proofs.transform.half_step_bytes.Given as goal
 
 abbrev pub invariant-loop-base : goal.invariant-loop-base

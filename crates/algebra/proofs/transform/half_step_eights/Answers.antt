@@ -1,11 +1,9 @@
 -- `half_step_eights` meets its contract: the half step has been done below base * 8.
-use borrow.Author.Rules.{rules}
-use mathlib.Core.Path.{◌≡◌, refl}
-use Prim.Native.Nat.{◌+◌, ◌-◌, ◌*◌, ◌/◌}
+use mathlib.Core.Path.{refl}
+use Prim.Native.Nat.{◌+◌, ◌-◌}
 use native.Mathlib.Omega.{arith}
-use lib.ListN.{length}
 use lib.Pow.{pow_pos}
-use Rattle.algebra.proofs.transform.Halves.{HalvedTo, eights-none, eights-room, eights-apart, eights-more, eights-all}
+use Rattle.algebra.proofs.transform.Halves.{eights-none, eights-room, eights-apart, eights-more, eights-all}
 use Rattle.algebra.proofs.transform.half_step_eights.Goals as goal
 
 pub loop-base-init : goal.loop-base-init

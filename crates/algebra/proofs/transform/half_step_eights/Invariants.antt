@@ -1,10 +1,7 @@
-use borrow.Author.Rules.{rules}
-use mathlib.Core.Path.{◌≡◌, refl}
+use mathlib.Core.Path.{◌≡◌}
 use Prim.Native.Nat.{◌+◌, ◌-◌, ◌*◌, ◌/◌}
-use native.Mathlib.Omega.{arith}
 use lib.ListN.{length}
-use lib.Pow.{pow_pos}
-use Rattle.algebra.proofs.transform.Halves.{HalvedTo, eights-none, eights-room, eights-apart, eights-more, eights-all}
+use Rattle.algebra.proofs.transform.Halves.{HalvedTo}
 use Rattle.algebra.proofs.transform.half_step_eights.Given as goal
 
 abbrev pub invariant-loop-base : goal.invariant-loop-base

@@ -1,10 +1,7 @@
 -- `join_eights` meets its contract: after q turns the first q runs of eight bytes are joined.
-use borrow.Author.Rules.{rules}
 use mathlib.Core.Path.{◌≡◌}
-use Prim.Native.Nat.{◌+◌, ◌-◌, ◌*◌, ◌≤◌}
+use Prim.Native.Nat.{◌-◌}
 use native.Mathlib.Omega.{arith}
-use lib.ListN.{length}
-use Rattle.algebra.specs.Inner.Steps.{RunJoined, Apart}
 use Rattle.algebra.proofs.transform.Runs.{run_none, run-eight, apart-eight}
 use Rattle.algebra.proofs.transform.join_eights.Goals as goal
 

@@ -1,10 +1,6 @@
-use borrow.Author.Rules.{rules}
-use mathlib.Core.Path.{◌≡◌}
 use Prim.Native.Nat.{◌+◌, ◌-◌, ◌*◌, ◌≤◌}
-use native.Mathlib.Omega.{arith}
 use lib.ListN.{length}
 use Rattle.algebra.specs.Inner.Steps.{RunJoined, Apart}
-use Rattle.algebra.proofs.transform.Runs.{run_none, run-eight, apart-eight}
 use Rattle.algebra.proofs.transform.join_eights.Given as goal
 
 abbrev pub invariant-loop-q : goal.invariant-loop-q

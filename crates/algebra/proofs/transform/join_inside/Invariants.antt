@@ -1,9 +1,6 @@
-use borrow.Author.Rules.{rules}
 use Prim.Native.Nat.{◌+◌, ◌-◌}
-use native.Mathlib.Omega.{arith}
 use Rattle.algebra.specs.Inner.Steps.{half_step}
-use Rattle.algebra.proofs.HalfSteps.{half-below}
-use Rattle.algebra.proofs.transform.Inputs.{SteppedTo, stepped-none, stepped-long, stepped-ready, stepped-more, stepped-all}
+use Rattle.algebra.proofs.transform.Inputs.{SteppedTo}
 use Rattle.algebra.proofs.transform.join_inside.Given as goal
 
 abbrev pub invariant-loop-s : goal.invariant-loop-s

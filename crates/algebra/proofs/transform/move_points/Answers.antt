@@ -1,11 +1,7 @@
 -- `move_points` meets its contract: after q turns the first q places are filled.
-use borrow.Author.Rules.{rules}
 use mathlib.Core.Path.{refl}
 use Prim.Native.Nat.{◌-◌}
-use lib.Bits.{bit_xor}
-use lib.ListN.{length}
-use Rattle.numbers.specs.Bytes.{at}
-use Rattle.numbers.proofs.Bytes.{Filled, filled_none, filled_more, filled-all}
+use Rattle.numbers.proofs.Bytes.{filled_none, filled_more, filled-all}
 use native.Mathlib.Omega.{arith}
 use Rattle.algebra.proofs.transform.move_points.Goals as goal
 

@@ -1,11 +1,8 @@
-use borrow.Author.Rules.{rules}
-use mathlib.Core.Path.{refl}
 use Prim.Native.Nat.{◌-◌}
 use lib.Bits.{bit_xor}
 use lib.ListN.{length}
 use Rattle.numbers.specs.Bytes.{at}
-use Rattle.numbers.proofs.Bytes.{Filled, filled_none, filled_more, filled-all}
-use native.Mathlib.Omega.{arith}
+use Rattle.numbers.proofs.Bytes.{Filled}
 use Rattle.algebra.proofs.transform.move_points.Given as goal
 
 abbrev pub invariant-loop-q : goal.invariant-loop-q

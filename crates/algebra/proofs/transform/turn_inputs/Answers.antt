@@ -1,11 +1,8 @@
 -- `turn_inputs` meets its contract: after s turns the inputs below s that are bits of `changed` have been turned over.
-use borrow.Author.Rules.{rules}
 use Prim.Native.Nat.{◌+◌, ◌-◌}
 use native.Mathlib.Omega.{arith}
-use Rattle.algebra.specs.Inner.Steps.{turned_where}
 use Rattle.algebra.proofs.HalfSteps.{where_below}
-use Rattle.algebra.proofs.transform.Inputs.{SteppedTo, stepped-none, stepped-long, stepped-ready, stepped-more, stepped-all, turned-digit}
-use Rattle.numbers.specs.Bits.{bit}
+use Rattle.algebra.proofs.transform.Inputs.{stepped-none, stepped-long, stepped-ready, stepped-more, stepped-all, turned-digit}
 use Rattle.algebra.proofs.transform.turn_inputs.Goals as goal
 
 pub loop-s-init : goal.loop-s-init

@@ -1,9 +1,6 @@
-use borrow.Author.Rules.{rules}
 use Prim.Native.Nat.{◌+◌, ◌-◌}
-use native.Mathlib.Omega.{arith}
 use Rattle.algebra.specs.Inner.Steps.{turned_where}
-use Rattle.algebra.proofs.HalfSteps.{where_below}
-use Rattle.algebra.proofs.transform.Inputs.{SteppedTo, stepped-none, stepped-long, stepped-ready, stepped-more, stepped-all, turned-digit}
+use Rattle.algebra.proofs.transform.Inputs.{SteppedTo}
 use Rattle.numbers.specs.Bits.{bit}
 use Rattle.algebra.proofs.transform.turn_inputs.Given as goal
 

@@ -1,5 +1,4 @@
 -- `turn_where` meets its contract: by the digit, no change or one half step.
-use borrow.Author.Rules.{rules}
 use Rattle.algebra.proofs.transform.Inputs.{turned_none, turned-one}
 use Rattle.algebra.proofs.transform.turn_where.Goals as goal
 

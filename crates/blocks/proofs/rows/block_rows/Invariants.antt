@@ -1,14 +1,7 @@
-use borrow.Author.Rules.{rules}
-use mathlib.Core.Path.{◌≡◌, ap, ◌∙◌}
-use mathlib.Core.List.{List}
-use Prim.Native.Nat.{ℕ, ◌+◌, ◌-◌, ◌*◌, ◌<◌}
-use native.Mathlib.Omega.{arith}
-use Rattle.numbers.specs.Bytes.{at}
+use Prim.Native.Nat.{ℕ, ◌-◌}
 use Rattle.numbers.specs.Words.{word}
-use Rattle.numbers.proofs.Bytes.{Filled, filled_none, filled_more}
-use Rattle.numbers.proofs.Words.{word-ext}
-use Rattle.expansions.specs.BlockTable.{entry, block_table}
-use Rattle.expansions.proofs.BlockTable.{block_table-entry, entry_lt}
+use Rattle.numbers.proofs.Bytes.{Filled}
+use Rattle.expansions.specs.BlockTable.{entry}
 use Rattle.blocks.proofs.rows.block_rows.Given as goal
 
 -- the row of g

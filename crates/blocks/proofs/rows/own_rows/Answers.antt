@@ -1,5 +1,4 @@
 -- The loop fills the array by the rows of the table of two inputs.
-use borrow.Author.Rules.{rules}
 use mathlib.Core.Path.{◌≡◌, ap, ◌∙◌}
 use mathlib.Core.List.{List}
 use Prim.Native.Nat.{ℕ, ◌+◌, ◌-◌, ◌*◌, ◌/◌, ◌%◌, ◌<◌}
@@ -7,8 +6,7 @@ use native.Mathlib.Omega.{arith}
 use lib.Arith.{digits_div, digits_mod}
 use lib.Bits.{bit_and, and_mask}
 use Rattle.numbers.specs.Bytes.{at}
-use Rattle.numbers.specs.Words.{word}
-use Rattle.numbers.proofs.Bytes.{Filled, filled_none, filled_more}
+use Rattle.numbers.proofs.Bytes.{filled_none, filled_more}
 use Rattle.numbers.proofs.Words.{word-ext}
 use Rattle.expansions.specs.BlockTable.{own_entry, own_table}
 use Rattle.expansions.proofs.BlockTable.{own_table-row, own_entry-lt}

@@ -1,16 +1,7 @@
-use borrow.Author.Rules.{rules}
-use mathlib.Core.Path.{◌≡◌, ap, ◌∙◌}
-use mathlib.Core.List.{List}
-use Prim.Native.Nat.{ℕ, ◌+◌, ◌-◌, ◌*◌, ◌/◌, ◌%◌, ◌<◌}
-use native.Mathlib.Omega.{arith}
-use lib.Arith.{digits_div, digits_mod}
-use lib.Bits.{bit_and, and_mask}
-use Rattle.numbers.specs.Bytes.{at}
+use Prim.Native.Nat.{ℕ, ◌+◌, ◌-◌, ◌*◌, ◌/◌, ◌%◌}
 use Rattle.numbers.specs.Words.{word}
-use Rattle.numbers.proofs.Bytes.{Filled, filled_none, filled_more}
-use Rattle.numbers.proofs.Words.{word-ext}
-use Rattle.expansions.specs.BlockTable.{own_entry, own_table}
-use Rattle.expansions.proofs.BlockTable.{own_table-row, own_entry-lt}
+use Rattle.numbers.proofs.Bytes.{Filled}
+use Rattle.expansions.specs.BlockTable.{own_entry}
 use Rattle.blocks.proofs.rows.own_rows.Given as goal
 
 -- row y

@@ -1,10 +1,7 @@
-use borrow.Author.Rules.{rules}
-use mathlib.Core.Path.{◌≡◌, ap, ◌∙◌}
-use Prim.Native.Nat.{ℕ, ◌+◌, ◌-◌, ◌≤◌}
-use native.Mathlib.Omega.{arith}
+use mathlib.Core.Path.{◌≡◌}
+use Prim.Native.Nat.{◌+◌, ◌-◌, ◌≤◌}
 use Rattle.numbers.specs.Bytes.{at}
 use Rattle.numbers.specs.Words.{word}
-use Rattle.numbers.proofs.Words.{word_none, word_more, word_fits}
 use Rattle.blocks.proofs.rows.row_at.Given as goal
 
 abbrev pub invariant-loop-q : goal.invariant-loop-q

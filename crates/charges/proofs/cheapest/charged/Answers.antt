@@ -1,5 +1,4 @@
 -- `charged` meets its contract: each term of block j has the literals of j outside the mixed set.
-use borrow.Author.Rules.{rules}
 use mathlib.Core.Path.{refl, ap, ◌∙◌}
 use Prim.Native.Nat.{ℕ}
 use native.Mathlib.Omega.{arith}

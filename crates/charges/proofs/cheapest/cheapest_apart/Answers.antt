@@ -1,5 +1,4 @@
 -- The lesser of the least small sums of the two halves stands for the least charge, and its choice is the first that has it.
-use borrow.Author.Rules.{rules}
 use mathlib.Core.Bool.{cond}
 use Prim.Native.Nat.{ℕ, ◌+◌, ◌<◌}
 use lib.Dec.{lit<}

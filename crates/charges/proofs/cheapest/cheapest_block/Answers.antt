@@ -1,5 +1,4 @@
 -- The least small sum stands for the least charge, and its choice is the first that has it.
-use borrow.Author.Rules.{rules}
 use Prim.Native.Nat.{◌^◌}
 use lib.Pow.{pow_pos}
 use Rattle.numbers.specs.Bytes.{at}

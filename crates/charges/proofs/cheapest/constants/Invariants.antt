@@ -1,21 +1,8 @@
-use borrow.Author.Rules.{rules}
-use mathlib.Core.Path.{◌≡◌, ◌∙◌, ap}
-use mathlib.Core.List.{List}
-use Prim.Native.Nat.{ℕ, ◌+◌, ◌*◌, ◌-◌, ◌^◌, ◌%◌, ◌≤◌, ◌<◌}
-use native.Mathlib.Nat.{mod-eq_of_lt}
-use native.Mathlib.Numerals.{add-one}
-use native.Mathlib.Omega.{arith}
+use mathlib.Core.Path.{◌≡◌}
+use Prim.Native.Nat.{ℕ, ◌+◌, ◌*◌, ◌-◌, ◌≤◌, ◌<◌}
 use Rattle.numbers.specs.Bytes.{at}
 use Rattle.numbers.specs.Bits.{bit, pack}
 use Rattle.numbers.specs.Words.{word, byte}
-use Rattle.numbers.proofs.Bits.{bit-lt}
-use Rattle.numbers.proofs.Pack.{pack-ext}
-use Rattle.numbers.proofs.Words.{word-ext}
-use Rattle.numbers.proofs.WordBits.{word-pack-none, word-pack-more, word-pack-fits}
-use Rattle.expansions.specs.BlockTable.{choice_entry}
-use Rattle.expansions.proofs.Least.{below-one-more}
-use Rattle.lanes.specs.Inner.Terms.{coefficient_in}
-use Rattle.charges.proofs.cheapest.FirstTerms.{lowest, first-terms, entries-first}
 use Rattle.charges.proofs.cheapest.constants.Given as goal
 
 abbrev pub invariant-loop-output : goal.invariant-loop-output

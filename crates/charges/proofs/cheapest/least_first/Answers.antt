@@ -1,5 +1,4 @@
 -- Where the terms of the block choose apart the first least is the lesser of those of the two halves.
-use borrow.Author.Rules.{rules}
 use mathlib.Core.Bool.{cond}
 use mathlib.Core.Path.{sym, ◌∙◌}
 use Prim.Native.Nat.{◌^◌, ◌<◌}

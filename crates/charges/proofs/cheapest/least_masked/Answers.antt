@@ -1,12 +1,10 @@
 -- The loop holds the first least of the sums tried, and the rest of the two words.
-use borrow.Author.Rules.{rules}
-use mathlib.Core.Logic.{⊎_elim}
 use mathlib.Core.Path.{ap₂, ◌∙◌}
 use Prim.Native.Nat.{ℕ, ◌+◌, ◌-◌, ◌*◌, ◌%◌, ◌^◌}
 use native.Mathlib.Omega.{arith}
 use lib.Bits.{mask_lt}
 use Rattle.numbers.specs.Words.{byte}
-use Rattle.charges.proofs.cheapest.Choices.{SumsTried, Shifted, count-pos, shifted-first, shifted-byte, shifted-more, tried-first, tried-take, tried-keep, tried-all, pair_lt}
+use Rattle.charges.proofs.cheapest.Choices.{count-pos, shifted-first, shifted-byte, shifted-more, tried-first, tried-take, tried-keep, tried-all, pair_lt}
 use Rattle.charges.proofs.cheapest.least_masked.Goals as goal
 use Rattle.charges.proofs.cheapest.least_masked.Goals.{then-masked-least, else-masked-least}
 

@@ -1,11 +1,6 @@
-use borrow.Author.Rules.{rules}
-use mathlib.Core.Logic.{⊎_elim}
-use mathlib.Core.Path.{ap₂, ◌∙◌}
-use Prim.Native.Nat.{ℕ, ◌+◌, ◌-◌, ◌*◌, ◌%◌, ◌^◌}
-use native.Mathlib.Omega.{arith}
-use lib.Bits.{mask_lt}
+use Prim.Native.Nat.{◌+◌, ◌-◌, ◌*◌}
 use Rattle.numbers.specs.Words.{byte}
-use Rattle.charges.proofs.cheapest.Choices.{SumsTried, Shifted, count-pos, shifted-first, shifted-byte, shifted-more, tried-first, tried-take, tried-keep, tried-all, pair_lt}
+use Rattle.charges.proofs.cheapest.Choices.{SumsTried, Shifted}
 use Rattle.charges.proofs.cheapest.least_masked.Given as goal
 
 abbrev pub invariant-loop-left : goal.invariant-loop-left

@@ -1,13 +1,11 @@
 -- The loop holds the first least of the sums tried, and the rest of the word.
-use borrow.Author.Rules.{rules}
-use mathlib.Core.Logic.{⊎_elim}
 use mathlib.Core.Path.{sym, ◌∙◌}
 use Prim.Native.Nat.{◌-◌, ◌*◌, ◌%◌, ◌^◌}
 use native.Mathlib.Omega.{arith}
 use lib.Bits.{mask_lt, and_mask}
 use Rattle.numbers.specs.Words.{byte}
 use Rattle.numbers.proofs.Words.{byte-zero, byte-lt}
-use Rattle.charges.proofs.cheapest.Choices.{SumsTried, Shifted, count-pos, shifted-first, shifted-byte, shifted-more, tried-first, tried-take, tried-keep, tried-all}
+use Rattle.charges.proofs.cheapest.Choices.{count-pos, shifted-first, shifted-byte, shifted-more, tried-first, tried-take, tried-keep, tried-all}
 use Rattle.charges.proofs.cheapest.least_sum.Goals as goal
 use Rattle.charges.proofs.cheapest.least_sum.Goals.{then-sum-least, else-sum-least}
 

@@ -1,12 +1,6 @@
-use borrow.Author.Rules.{rules}
-use mathlib.Core.Logic.{⊎_elim}
-use mathlib.Core.Path.{sym, ◌∙◌}
-use Prim.Native.Nat.{◌-◌, ◌*◌, ◌%◌, ◌^◌}
-use native.Mathlib.Omega.{arith}
-use lib.Bits.{mask_lt, and_mask}
+use Prim.Native.Nat.{◌-◌}
 use Rattle.numbers.specs.Words.{byte}
-use Rattle.numbers.proofs.Words.{byte-zero, byte-lt}
-use Rattle.charges.proofs.cheapest.Choices.{SumsTried, Shifted, count-pos, shifted-first, shifted-byte, shifted-more, tried-first, tried-take, tried-keep, tried-all}
+use Rattle.charges.proofs.cheapest.Choices.{SumsTried, Shifted}
 use Rattle.charges.proofs.cheapest.least_sum.Given as goal
 
 abbrev pub invariant-loop-left : goal.invariant-loop-left

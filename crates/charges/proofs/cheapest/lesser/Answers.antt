@@ -1,5 +1,4 @@
 -- The lesser of the first least of each eight is the first least of the sixteen.
-use borrow.Author.Rules.{rules}
 use Rattle.charges.proofs.cheapest.Choices.{lesser-high, lesser-low}
 use Rattle.charges.proofs.cheapest.lesser.Goals as goal
 

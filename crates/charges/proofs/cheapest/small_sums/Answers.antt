@@ -1,9 +1,8 @@
 -- After t turns the word holds the small sums of the terms below t.
-use borrow.Author.Rules.{rules}
 use Prim.Native.Nat.{◌-◌}
 use native.Mathlib.Omega.{arith}
 use Rattle.expansions.specs.Inner.Charges.{literal_counts, literal_count}
-use Rattle.charges.proofs.cheapest.Sums.{Summed, summed-none, summed-fits, summed-more, summed-all}
+use Rattle.charges.proofs.cheapest.Sums.{summed-none, summed-fits, summed-more, summed-all}
 use Rattle.charges.proofs.cheapest.small_sums.Goals as goal
 
 pub loop-t-init : goal.loop-t-init

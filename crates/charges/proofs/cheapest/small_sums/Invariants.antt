@@ -1,8 +1,5 @@
-use borrow.Author.Rules.{rules}
 use Prim.Native.Nat.{◌-◌}
-use native.Mathlib.Omega.{arith}
-use Rattle.expansions.specs.Inner.Charges.{literal_counts, literal_count}
-use Rattle.charges.proofs.cheapest.Sums.{Summed, summed-none, summed-fits, summed-more, summed-all}
+use Rattle.charges.proofs.cheapest.Sums.{Summed}
 use Rattle.charges.proofs.cheapest.small_sums.Given as goal
 
 abbrev pub invariant-loop-t : goal.invariant-loop-t

@@ -1,5 +1,4 @@
 -- The weights are small, so that no product and no sum of them wraps.
-use borrow.Author.Rules.{rules}
 use native.Mathlib.Omega.{arith}
 use Rattle.charges.proofs.cheapest.Weighed.{weighed-is, outside-le, product_le, products-le, weighed-le}
 use Rattle.charges.proofs.cheapest.sum_charge.Goals as goal

@@ -1,7 +1,7 @@
 -- The loop holds what the rows of the outputs below o have together.
 use borrow.Author.Rules.{rules}
 use mathlib.Core.Path.{◌≡◌, refl, ap, ◌∙◌}
-use Prim.Native.Nat.{ℕ, ◌+◌, ◌*◌, ◌-◌, ◌^◌, ◌%◌, ◌≤◌, ◌<◌}
+use Prim.Native.Nat.{ℕ, ◌+◌, ◌*◌, ◌-◌, ◌^◌, ◌%◌, ◌<◌}
 use native.Mathlib.Nat.{mod-eq_of_lt}
 use native.Mathlib.Numerals.{add-one}
 use native.Mathlib.Omega.{arith}
@@ -9,7 +9,7 @@ use lib.Bits.{bit_or}
 use Rattle.numbers.specs.Bytes.{at}
 use Rattle.numbers.specs.Sums.{fold_below}
 use Rattle.expansions.proofs.Least.{below-one-more}
-use Rattle.charges.proofs.cheapest.Used.{or_below, or-more, used_all}
+use Rattle.charges.proofs.cheapest.Used.{or-more, used_all}
 use Rattle.charges.proofs.cheapest.used_terms.Goals as goal
 use Rattle.charges.proofs.cheapest.used_terms.Goals.{After-shared_slice_known-1}
 

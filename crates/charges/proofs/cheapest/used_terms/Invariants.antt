@@ -1,14 +1,7 @@
-use borrow.Author.Rules.{rules}
-use mathlib.Core.Path.{◌≡◌, refl, ap, ◌∙◌}
-use Prim.Native.Nat.{ℕ, ◌+◌, ◌*◌, ◌-◌, ◌^◌, ◌%◌, ◌≤◌, ◌<◌}
-use native.Mathlib.Nat.{mod-eq_of_lt}
-use native.Mathlib.Numerals.{add-one}
-use native.Mathlib.Omega.{arith}
-use lib.Bits.{bit_or}
+use mathlib.Core.Path.{◌≡◌}
+use Prim.Native.Nat.{ℕ, ◌+◌, ◌*◌, ◌-◌, ◌≤◌, ◌<◌}
 use Rattle.numbers.specs.Bytes.{at}
-use Rattle.numbers.specs.Sums.{fold_below}
-use Rattle.expansions.proofs.Least.{below-one-more}
-use Rattle.charges.proofs.cheapest.Used.{or_below, or-more, used_all}
+use Rattle.charges.proofs.cheapest.Used.{or_below}
 use Rattle.charges.proofs.cheapest.used_terms.Given as goal
 
 abbrev pub invariant-loop-o : goal.invariant-loop-o

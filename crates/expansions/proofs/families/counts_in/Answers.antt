@@ -1,5 +1,4 @@
 -- `counts_in` meets its contract, family by family.
-use borrow.Author.Rules.{rules}
 use mathlib.Core.Path.{refl, sym}
 use native.Mathlib.Omega.{arith}
 use lib.Bits.{and_mask}

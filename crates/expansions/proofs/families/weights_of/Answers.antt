@@ -1,6 +1,5 @@
 -- `weights_of` meets its contract, family by family.
 use mathlib.Core.Path.{refl}
-use borrow.Author.Rules.{rules}
 use Rattle.expansions.proofs.families.weights_of.Goals as goal
 
 pub returns-in-One : goal.returns-in-One

@@ -1,6 +1,5 @@
 -- `apart` meets its contract, class by class.
 use mathlib.Core.Path.{refl}
-use borrow.Author.Rules.{rules}
 use Rattle.expansions.proofs.kinds.apart.Goals as goal
 
 pub returns-in-Free : goal.returns-in-Free

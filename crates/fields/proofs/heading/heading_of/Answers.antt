@@ -1,5 +1,4 @@
 -- `heading_of` meets its contract: a family or a number that is not read makes the line wrong.
-use borrow.Author.Rules.{rules}
 use Rattle.fields.proofs.heading.heading_of.Goals as goal
 
 pub returns : goal.returns

@@ -1,10 +1,9 @@
 -- `part` meets its contract. The invariant: the part j of the text is the part `left` of those from the cursor on.
 use mathlib.Core.List.{[]}
 use mathlib.Core.Path.{◌≡◌, ap, sym, ◌∙◌}
-use Prim.Native.Nat.{ℕ, ◌+◌, ◌≤◌}
+use Prim.Native.Nat.{ℕ, ◌+◌}
 use native.Mathlib.Omega.{arith}
-use borrow.Author.Rules.{rules}
-use lib.ListN.{length, get_or, drop}
+use lib.ListN.{get_or, drop}
 use Rattle.listings.specs.Parts.{all, parts}
 use Rattle.listings.specs.Inner.Stops.{stop}
 use Rattle.listings.proofs.Parts.{stop_le, first-slice, others-last, others-next, part-later, part_none}

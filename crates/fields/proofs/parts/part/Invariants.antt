@@ -1,12 +1,8 @@
 use mathlib.Core.List.{[]}
-use mathlib.Core.Path.{◌≡◌, ap, sym, ◌∙◌}
-use Prim.Native.Nat.{ℕ, ◌+◌, ◌≤◌}
-use native.Mathlib.Omega.{arith}
-use borrow.Author.Rules.{rules}
+use mathlib.Core.Path.{◌≡◌}
+use Prim.Native.Nat.{◌≤◌}
 use lib.ListN.{length, get_or, drop}
 use Rattle.listings.specs.Parts.{all, parts}
-use Rattle.listings.specs.Inner.Stops.{stop}
-use Rattle.listings.proofs.Parts.{stop_le, first-slice, others-last, others-next, part-later, part_none}
 use Rattle.fields.proofs.parts.part.Given as goal
 
 abbrev pub invariant-loop-left : goal.invariant-loop-left

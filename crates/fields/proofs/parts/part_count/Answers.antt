@@ -1,10 +1,8 @@
 -- `part_count` meets its contract. The invariant: the parts of the text are those counted and those after the one at the cursor.
 use mathlib.Core.Path.{◌≡◌, ap}
-use Prim.Native.Nat.{◌+◌, ◌≤◌, ◌-◌}
+use Prim.Native.Nat.{◌+◌, ◌-◌}
 use native.Mathlib.Omega.{arith}
-use borrow.Author.Rules.{rules}
-use lib.ListN.{length, drop}
-use Rattle.listings.specs.Parts.{all, parts}
+use lib.ListN.{length}
 use Rattle.listings.specs.Inner.Stops.{stop}
 use Rattle.listings.proofs.Parts.{stop_le, others-last, others-next}
 use Rattle.fields.proofs.parts.part_count.Goals as goal

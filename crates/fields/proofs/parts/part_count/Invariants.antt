@@ -1,11 +1,7 @@
-use mathlib.Core.Path.{◌≡◌, ap}
+use mathlib.Core.Path.{◌≡◌}
 use Prim.Native.Nat.{◌+◌, ◌≤◌, ◌-◌}
-use native.Mathlib.Omega.{arith}
-use borrow.Author.Rules.{rules}
 use lib.ListN.{length, drop}
 use Rattle.listings.specs.Parts.{all, parts}
-use Rattle.listings.specs.Inner.Stops.{stop}
-use Rattle.listings.proofs.Parts.{stop_le, others-last, others-next}
 use Rattle.fields.proofs.parts.part_count.Given as goal
 
 abbrev pub invariant-loop-stop : goal.invariant-loop-stop

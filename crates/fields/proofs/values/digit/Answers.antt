@@ -1,5 +1,4 @@
 -- `digit` meets its contract: each test is one of the definition's.
-use borrow.Author.Rules.{rules}
 use borrow.Author.Tests.{lt-ltb, le-ltb, le-leb, lt-leb}
 use Rattle.fields.specs.Fields.{digit}
 use Rattle.fields.proofs.values.digit.Goals as goal

@@ -1,6 +1,5 @@
 -- `one_digit` meets its contract: each test is one of the definition's.
 use mathlib.Core.Path.{◌∙◌}
-use borrow.Author.Rules.{rules}
 use borrow.Author.Tests.{eq-eqb, ne_eqb}
 use Rattle.fields.specs.Fields.{one_digit}
 use Rattle.fields.proofs.values.one_digit.Goals as goal

@@ -1,6 +1,5 @@
 -- `outputs` meets its contract, by that of `mask`.
 use mathlib.Core.Path.{sym, ◌∙◌}
-use borrow.Author.Rules.{rules}
 use borrow.Author.Tests.{eq-eqb, ne_eqb}
 use Rattle.fields.specs.Fields.{outputs}
 use Rattle.fields.proofs.values.outputs.Goals as goal

@@ -1,15 +1,13 @@
 -- `read_cube` meets its contract. The invariant: the characters passed show `term` and `complemented`, and the field says what the characters left
 -- say after them.
 use mathlib.Core.Path.{◌≡◌, sym, ◌∙◌}
-use Prim.Native.Nat.{suc, ◌≤◌, ◌<◌, ◌-◌, ◌^◌}
+use Prim.Native.Nat.{suc, ◌<◌, ◌-◌}
 use native.Mathlib.Omega.{arith}
-use borrow.Author.Rules.{rules}
 use borrow.Author.Tests.{ne_eqb}
 use lib.Dec.{lit<}
-use lib.ListN.{length, drop}
 use Rattle.numbers.proofs.Shifts.{points-le}
 use Rattle.fields.specs.Cubes.{character_said, cube_said}
-use Rattle.fields.proofs.values.Shown.{cube_from, cube-start, cube-step, cube-wrong, cube-end, character-lt, two-more}
+use Rattle.fields.proofs.values.Shown.{cube-start, cube-step, cube-wrong, cube-end, character-lt, two-more}
 use Rattle.fields.proofs.values.read_cube.Goals as goal
 
 pub returns-then-field-n : goal.returns-then-field-n

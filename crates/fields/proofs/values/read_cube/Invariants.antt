@@ -1,13 +1,8 @@
-use mathlib.Core.Path.{◌≡◌, sym, ◌∙◌}
-use Prim.Native.Nat.{suc, ◌≤◌, ◌<◌, ◌-◌, ◌^◌}
-use native.Mathlib.Omega.{arith}
-use borrow.Author.Rules.{rules}
-use borrow.Author.Tests.{ne_eqb}
-use lib.Dec.{lit<}
+use mathlib.Core.Path.{◌≡◌}
+use Prim.Native.Nat.{◌≤◌, ◌<◌, ◌-◌, ◌^◌}
 use lib.ListN.{length, drop}
-use Rattle.numbers.proofs.Shifts.{points-le}
-use Rattle.fields.specs.Cubes.{character_said, cube_said}
-use Rattle.fields.proofs.values.Shown.{cube_from, cube-start, cube-step, cube-wrong, cube-end, character-lt, two-more}
+use Rattle.fields.specs.Cubes.{cube_said}
+use Rattle.fields.proofs.values.Shown.{cube_from}
 use Rattle.fields.proofs.values.read_cube.Given as goal
 
 abbrev pub invariant-loop-left : goal.invariant-loop-left

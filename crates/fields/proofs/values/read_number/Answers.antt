@@ -1,13 +1,11 @@
 -- `read_number` meets its contract. The invariant: the digits passed say `value`, below 10 ^ k, and the field says what the digits left say after it.
 use mathlib.Core.Bool.{true}
 use mathlib.Core.Path.{◌≡◌, sym, ◌∙◌}
-use Prim.Native.Nat.{zero-le, ◌≤◌, ◌<◌, ◌-◌, ◌^◌}
+use Prim.Native.Nat.{zero-le, ◌<◌, ◌-◌}
 use native.Mathlib.Omega.{arith}
-use borrow.Author.Rules.{rules}
 use borrow.Author.Tests.{not-true, not-false}
 use lib.Dec.{lit<}
-use lib.ListN.{length, drop}
-use Rattle.fields.specs.Fields.{digit, number, digits_from, well_formed}
+use Rattle.fields.specs.Fields.{digit, number, well_formed}
 use Rattle.fields.proofs.Numbers.{digit_lt, digits_step, digits-wrong, digits-end, well_formed-le, ten-le, ten-more}
 use Rattle.fields.proofs.values.read_number.Goals as goal
 

@@ -1,13 +1,7 @@
-use mathlib.Core.Bool.{true}
-use mathlib.Core.Path.{◌≡◌, sym, ◌∙◌}
-use Prim.Native.Nat.{zero-le, ◌≤◌, ◌<◌, ◌-◌, ◌^◌}
-use native.Mathlib.Omega.{arith}
-use borrow.Author.Rules.{rules}
-use borrow.Author.Tests.{not-true, not-false}
-use lib.Dec.{lit<}
+use mathlib.Core.Path.{◌≡◌}
+use Prim.Native.Nat.{◌≤◌, ◌<◌, ◌-◌, ◌^◌}
 use lib.ListN.{length, drop}
-use Rattle.fields.specs.Fields.{digit, number, digits_from, well_formed}
-use Rattle.fields.proofs.Numbers.{digit_lt, digits_step, digits-wrong, digits-end, well_formed-le, ten-le, ten-more}
+use Rattle.fields.specs.Fields.{number, digits_from}
 use Rattle.fields.proofs.values.read_number.Given as goal
 
 abbrev pub invariant-loop-k : goal.invariant-loop-k

@@ -1,5 +1,4 @@
 -- `well_formed` meets its contract: each test is one of the definition's.
-use borrow.Author.Rules.{rules}
 use borrow.Author.Tests.{eq-eqb, ne_eqb, le-leb, lt-leb}
 use Rattle.fields.specs.Fields.{well_formed}
 use Rattle.fields.proofs.values.well_formed.Goals as goal

@@ -1,6 +1,5 @@
 -- `with_class` meets its contract, case by case of the digit.
 use mathlib.Core.Path.{refl}
-use borrow.Author.Rules.{rules}
 use Rattle.fields.proofs.values.with_class.Goals as goal
 
 pub returns-in-Is : goal.returns-in-Is

@@ -1,5 +1,4 @@
 -- `family_of` meets its contract, by that of `headed`.
-use borrow.Author.Rules.{rules}
 use Rattle.fields.specs.Fields.{family_of}
 use Rattle.fields.proofs.words.family_of.Goals as goal
 

@@ -1,6 +1,5 @@
 -- `headed` meets its contract, by those of `field_count`, `field` and `same`.
 use mathlib.Core.Path.{◌∙◌}
-use borrow.Author.Rules.{rules}
 use borrow.Author.Tests.{eq-eqb, ne_eqb}
 use Rattle.fields.specs.Fields.{headed}
 use Rattle.fields.proofs.words.headed.Goals as goal

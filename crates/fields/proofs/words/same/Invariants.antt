@@ -1,11 +1,7 @@
-use mathlib.Core.Path.{◌≡◌, refl, sym, ◌∙◌}
+use mathlib.Core.Path.{◌≡◌}
 use Prim.Native.Nat.{◌≤◌, ◌-◌}
-use native.Mathlib.Omega.{arith}
-use borrow.Author.Rules.{rules}
-use borrow.Author.Tests.{eq-eqb, ne_eqb}
 use lib.ListN.{length, drop}
 use Rattle.listings.specs.Parts.{same}
-use Rattle.listings.proofs.Words.{same-lengths, same_step, same_end}
 use Rattle.fields.proofs.words.same.Given as goal
 
 abbrev pub invariant-loop-k : goal.invariant-loop-k

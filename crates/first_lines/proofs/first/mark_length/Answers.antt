@@ -1,5 +1,4 @@
 -- `mark_length` meets its contract, by the class.
-use borrow.Author.Rules.{rules}
 use Rattle.listings.specs.Parts.{bytes}
 use Rattle.listings.specs.Listing.{mixed_mark}
 use Rattle.first_lines.proofs.first.mark_length.Goals as goal

@@ -1,5 +1,4 @@
 -- `word_length` meets its contract, by the family.
-use borrow.Author.Rules.{rules}
 use Rattle.listings.specs.Parts.{bytes}
 use Rattle.listings.specs.Listing.{form_word}
 use Rattle.first_lines.proofs.first.word_length.Goals as goal

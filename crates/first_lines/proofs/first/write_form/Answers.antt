@@ -1,5 +1,4 @@
 -- `write_form` meets its contract: the word, the numbers before the field k, that field, the numbers after it and the line's end, one after the other.
-use borrow.Author.Rules.{rules}
 use Prim.Native.Nat.{◌+◌, ◌≤◌}
 use native.Mathlib.Omega.{arith}
 use lib.ListN.{length}

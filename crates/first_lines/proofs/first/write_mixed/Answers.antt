@@ -1,5 +1,4 @@
 -- `write_mixed` meets its contract, by the class: the tab, for the free class an `f`, and the digit, one after the other.
-use borrow.Author.Rules.{rules}
 use mathlib.Core.Path.{◌≡◌}
 use Prim.Native.Nat.{◌+◌, ◌≤◌}
 use native.Mathlib.Omega.{arith}

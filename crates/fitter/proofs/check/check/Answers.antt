@@ -4,7 +4,6 @@ use Rattle.table_texts.specs.Inner.Reading.{Reading, reading, stands_for}
 use Rattle.table_texts.proofs.read.Accepted.{reading-accepted, read_whole, reads-given, reads-refused}
 use Rattle.fitter.specs.Inner.Answer.{checked}
 use Rattle.fitter.proofs.Answers.{check-words}
-use borrow.Author.Rules.{rules}
 use Rattle.fitter.proofs.check.check.Goals as goal
 use Rattle.fitter.proofs.check.check.Goals.{After-read_table}
 

@@ -1,7 +1,6 @@
 -- `check_design` meets its contract, by the kind of k.
 use mathlib.Core.Path.{◌∙◌}
 use Rattle.fitter.specs.Inner.Answer.{judged_design}
-use borrow.Author.Rules.{rules}
 use Rattle.fitter.proofs.check.check_design.Goals as goal
 
 pub returns-in-Mixed : goal.returns-in-Mixed

@@ -3,7 +3,6 @@ use mathlib.Core.Path.{refl, sym, ap, ◌∙◌}
 use Rattle.listing_texts.specs.declared.read.ListingRead.{ListingRead}
 use Rattle.fitter.specs.Inner.Judging.{judged_record}
 use Rattle.fitter.proofs.Judging.{record-judged, refused-judged}
-use borrow.Author.Rules.{rules}
 use Rattle.fitter.proofs.check.check_table.Goals as goal
 
 pub returns-in-Given : goal.returns-in-Given

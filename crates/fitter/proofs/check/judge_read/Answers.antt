@@ -4,7 +4,6 @@ use borrow.Author.Tests.{not-true, not-false}
 use Rattle.fitter.specs.Inner.Judging.{judged_record}
 use Rattle.membership.proofs.Class.{legal-pair}
 use Rattle.fitter.proofs.Judging.{found_at, found_nowhere}
-use borrow.Author.Rules.{rules}
 use Rattle.fitter.proofs.check.judge_read.Goals as goal
 
 pub returns-then-not-legal_pair : goal.returns-then-not-legal_pair

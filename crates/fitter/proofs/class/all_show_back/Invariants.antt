@@ -1,14 +1,8 @@
-use borrow.Author.Rules.{rules}
-use borrow.Author.Tests.{not-true, not-false}
 use mathlib.Core.Bool.{true}
-use mathlib.Core.Path.{◌≡◌, refl, sym, ◌∙◌}
-use Prim.Native.Nat.{◌-◌, ◌≤◌, ◌<◌, ◌^◌}
-use native.Mathlib.Numerals.{add-one}
-use native.Mathlib.Omega.{arith}
+use mathlib.Core.Path.{◌≡◌}
+use Prim.Native.Nat.{◌-◌, ◌≤◌, ◌^◌}
 use Rattle.numbers.specs.Bytes.{at}
 use Rattle.numbers.specs.Tests.{every}
-use Rattle.numbers.proofs.Shifts.{one_shifted, points-le}
-use Rattle.numbers.proofs.Tests.{every-fails}
 use Rattle.membership.specs.Class.{shows_back}
 use Rattle.fitter.proofs.class.all_show_back.Given as goal
 

@@ -1,5 +1,4 @@
 -- `shows_back` meets its contract: a term with no line passes, and any other shows the polarity of its term.
-use borrow.Author.Rules.{rules}
 use borrow.Author.Tests.{eq-eqb, ne_eqb}
 use mathlib.Core.Path.{◌∙◌}
 use Rattle.search.proofs.polarity.Fitting.{term_polarity-fits}

@@ -2,7 +2,6 @@
 use mathlib.Core.Path.{sym}
 use lib.Seq.{length-take-le}
 use Rattle.fitter.proofs.Printed.{print-holds}
-use borrow.Author.Rules.{rules}
 use Rattle.fitter.proofs.print.print_check.Goals as goal
 
 pub slice_bounds-check-end : goal.slice_bounds-check-end

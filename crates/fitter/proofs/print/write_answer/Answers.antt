@@ -5,7 +5,6 @@ use Rattle.listings.specs.Parts.{bytes}
 use Rattle.listings.proofs.Lengths.{digits_of-le}
 use Rattle.text.specs.Judged.{refused_line}
 use Rattle.fitter.specs.AnswerLine.{answer_line}
-use borrow.Author.Rules.{rules}
 use Rattle.fitter.proofs.print.write_answer.Goals as goal
 
 pub write_line-stop-requires : goal.write_line-stop-requires

@@ -4,7 +4,6 @@ use mathlib.Core.Path.{◌≡◌, ap}
 use Prim.Native.Nat.{ℕ}
 use Rattle.listings.specs.Listing.{line, tabbed}
 use Rattle.writing.proofs.Puts.{put_then}
-use borrow.Author.Rules.{rules}
 use Rattle.fitter.proofs.print.write_word.Goals as goal
 
 -- the line of a word alone

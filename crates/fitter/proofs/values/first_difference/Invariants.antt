@@ -1,16 +1,7 @@
-use borrow.Author.Rules.{rules}
-use borrow.Author.Count.{below_more}
-use mathlib.Core.Path.{◌≡◌, sym, ap, ◌∙◌}
+use mathlib.Core.Path.{◌≡◌}
 use Prim.Native.Nat.{ℕ, ◌-◌, ◌≤◌, ◌<◌, ◌^◌}
-use native.Mathlib.Nat.{not-suc-le-zero}
-use native.Mathlib.Omega.{arith}
-use lib.Bits.{bit_xor}
 use Rattle.numbers.specs.Bytes.{at}
-use Rattle.numbers.proofs.Shifts.{one_shifted, points-le}
-use Rattle.algebra.specs.Terms.{value}
 use Rattle.fitter.specs.Differences.{inverted_value}
-use Rattle.fitter.specs.Inner.Differences.{difference_of}
-use Rattle.fitter.proofs.Differences.{none_differ, lowest-differs}
 use Rattle.fitter.proofs.values.first_difference.Given as goal
 
 abbrev pub invariant-loop-p : goal.invariant-loop-p

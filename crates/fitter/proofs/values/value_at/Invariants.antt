@@ -1,15 +1,10 @@
-use borrow.Author.Rules.{rules}
-use mathlib.Core.Logic.{⊎_elim}
-use mathlib.Core.Path.{◌≡◌, refl, sym, ap, ◌∙◌}
-use Prim.Native.Nat.{ℕ, ◌-◌, ◌≤◌, ◌<◌, ◌^◌}
-use native.Mathlib.Numerals.{add-one}
-use native.Mathlib.Omega.{arith}
-use lib.Bits.{bit_xor, xor_zero_r}
+use mathlib.Core.Path.{◌≡◌}
+use Prim.Native.Nat.{◌-◌, ◌≤◌, ◌^◌}
+use lib.Bits.{bit_xor}
 use Rattle.numbers.specs.Bytes.{at}
 use Rattle.numbers.specs.Sums.{fold_below}
 use Rattle.numbers.specs.Tests.{only}
-use Rattle.numbers.proofs.Shifts.{one_shifted, points-le}
-use Rattle.algebra.specs.Terms.{holds, value}
+use Rattle.algebra.specs.Terms.{holds}
 use Rattle.fitter.proofs.values.value_at.Given as goal
 
 abbrev pub invariant-loop-t : goal.invariant-loop-t

@@ -1,11 +1,11 @@
 -- `coefficients` meets its contract: after i turns the steps for the inputs below i are done.
 use borrow.Author.Rules.{rules}
-use mathlib.Core.Path.{◌≡◌, ap, ◌∙◌}
+use mathlib.Core.Path.{ap, ◌∙◌}
 use Prim.Native.Nat.{◌-◌}
 use native.Mathlib.Omega.{arith}
 use lib.ListN.{length}
 use Rattle.numbers.proofs.Bytes.{length-tabulate}
-use Rattle.expansions.proofs.Kronecker.Coefficients.{CoefficientsTo, coefficients-none, coefficients-fit, coefficients-more, coefficients-all}
+use Rattle.expansions.proofs.Kronecker.Coefficients.{coefficients-none, coefficients-fit, coefficients-more, coefficients-all}
 use Rattle.kronecker.proofs.answer.coefficients.Goals as goal
 
 pub overflow_shl-size : goal.overflow_shl-size

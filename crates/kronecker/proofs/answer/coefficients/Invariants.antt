@@ -1,10 +1,7 @@
-use borrow.Author.Rules.{rules}
-use mathlib.Core.Path.{◌≡◌, ap, ◌∙◌}
+use mathlib.Core.Path.{◌≡◌}
 use Prim.Native.Nat.{◌-◌}
-use native.Mathlib.Omega.{arith}
 use lib.ListN.{length}
-use Rattle.numbers.proofs.Bytes.{length-tabulate}
-use Rattle.expansions.proofs.Kronecker.Coefficients.{CoefficientsTo, coefficients-none, coefficients-fit, coefficients-more, coefficients-all}
+use Rattle.expansions.proofs.Kronecker.Coefficients.{CoefficientsTo}
 use Rattle.kronecker.proofs.answer.coefficients.Given as goal
 
 abbrev pub invariant-loop-i : goal.invariant-loop-i

@@ -1,5 +1,4 @@
 -- `find_kronecker` meets its contract.
-use borrow.Author.Rules.{rules}
 use mathlib.Core.Path.{sym, ◌∙◌}
 use Rattle.kronecker.specs.Inner.Answer.{searched_kronecker}
 use Rattle.kronecker.proofs.answer.Searchable.{allowed-table, searched-found}

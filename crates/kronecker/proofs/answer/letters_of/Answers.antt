@@ -1,7 +1,6 @@
 -- `letters_of` meets its contract: after i turns the letters of the inputs below i are written.
-use borrow.Author.Rules.{rules}
 use Prim.Native.Nat.{◌-◌}
-use Rattle.expansions.proofs.Kronecker.Coefficients.{LettersTo, letters-none, letters-more, letters-all}
+use Rattle.expansions.proofs.Kronecker.Coefficients.{letters-none, letters-more, letters-all}
 use Rattle.kronecker.proofs.answer.letters_of.Goals as goal
 
 pub loop-i-init : goal.loop-i-init

@@ -1,6 +1,5 @@
-use borrow.Author.Rules.{rules}
 use Prim.Native.Nat.{◌-◌}
-use Rattle.expansions.proofs.Kronecker.Coefficients.{LettersTo, letters-none, letters-more, letters-all}
+use Rattle.expansions.proofs.Kronecker.Coefficients.{LettersTo}
 use Rattle.kronecker.proofs.answer.letters_of.Given as goal
 
 abbrev pub invariant-loop-i : goal.invariant-loop-i

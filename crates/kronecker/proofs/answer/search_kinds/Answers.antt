@@ -1,5 +1,4 @@
 -- `search_kinds` meets its contract: the walk's lowest score is the answer's.
-use borrow.Author.Rules.{rules}
 use mathlib.Core.Path.{refl, sym, ◌∙◌}
 use Prim.Native.Nat.{◌/◌}
 use native.Mathlib.Omega.{arith}

@@ -1,12 +1,10 @@
 -- `step` meets its contract: every place below `base` has had the step.
-use borrow.Author.Rules.{rules}
 use Prim.Native.Nat.{ℕ, ◌-◌}
 use native.Mathlib.Omega.{arith}
 use lib.ListN.{length-replicate}
 use lib.Pow.{pow_pos}
-use Rattle.numbers.specs.Bytes.{at}
 use Rattle.numbers.proofs.Tables.{get_d-zeros}
-use Rattle.expansions.proofs.Kronecker.Runs.{StepAt, step_start, step_room, step-next, step-all}
+use Rattle.expansions.proofs.Kronecker.Runs.{step_start, step_room, step-next, step-all}
 use Rattle.kronecker.proofs.step.step.Goals as goal
 
 pub loop-base-init : goal.loop-base-init

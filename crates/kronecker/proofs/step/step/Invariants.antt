@@ -1,11 +1,6 @@
-use borrow.Author.Rules.{rules}
-use Prim.Native.Nat.{ℕ, ◌-◌}
-use native.Mathlib.Omega.{arith}
-use lib.ListN.{length-replicate}
-use lib.Pow.{pow_pos}
+use Prim.Native.Nat.{◌-◌}
 use Rattle.numbers.specs.Bytes.{at}
-use Rattle.numbers.proofs.Tables.{get_d-zeros}
-use Rattle.expansions.proofs.Kronecker.Runs.{StepAt, step_start, step_room, step-next, step-all}
+use Rattle.expansions.proofs.Kronecker.Runs.{StepAt}
 use Rattle.kronecker.proofs.step.step.Given as goal
 
 abbrev pub invariant-loop-base : goal.invariant-loop-base

@@ -1,11 +1,9 @@
 -- `step_run` meets its contract: after q turns the step is done on the first q pairs.
-use borrow.Author.Rules.{rules}
 use mathlib.Core.Path.{◌≡◌}
-use Prim.Native.Nat.{◌+◌, ◌-◌, ◌≤◌}
+use Prim.Native.Nat.{◌-◌}
 use native.Mathlib.Omega.{arith}
-use lib.ListN.{length, length-set}
+use lib.ListN.{length-set}
 use Rattle.numbers.specs.Bytes.{at}
-use Rattle.expansions.specs.Inner.KroneckerWalk.{RunStepped}
 use Rattle.expansions.proofs.Kronecker.Runs.{run_none, run_more}
 use Rattle.kronecker.proofs.step.step_run.Goals as goal
 

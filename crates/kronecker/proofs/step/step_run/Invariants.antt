@@ -1,11 +1,8 @@
-use borrow.Author.Rules.{rules}
 use mathlib.Core.Path.{◌≡◌}
 use Prim.Native.Nat.{◌+◌, ◌-◌, ◌≤◌}
-use native.Mathlib.Omega.{arith}
-use lib.ListN.{length, length-set}
+use lib.ListN.{length}
 use Rattle.numbers.specs.Bytes.{at}
 use Rattle.expansions.specs.Inner.KroneckerWalk.{RunStepped}
-use Rattle.expansions.proofs.Kronecker.Runs.{run_none, run_more}
 use Rattle.kronecker.proofs.step.step_run.Given as goal
 
 abbrev pub invariant-loop-q : goal.invariant-loop-q

@@ -2,7 +2,6 @@
 use native.Mathlib.Omega.{arith}
 use Rattle.expansions.proofs.Kronecker.Last.{tried-three}
 use Rattle.expansions.proofs.Kronecker.Walking.{place-light}
-use borrow.Author.Rules.{rules}
 use Rattle.kronecker.proofs.walk.try_last.Goals as goal
 
 pub half_charges-halves-requires : goal.half_charges-halves-requires

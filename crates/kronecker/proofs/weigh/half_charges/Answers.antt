@@ -1,9 +1,7 @@
 -- `half_charges` meets its contract: after s turns the first s places of each half are weighed.
-use borrow.Author.Rules.{rules}
 use Prim.Native.Nat.{◌-◌}
 use native.Mathlib.Omega.{arith}
-use Rattle.numbers.specs.Bytes.{at}
-use Rattle.expansions.proofs.Kronecker.Weighing.{HalvesTo, halves-none, halves-more, halves-all, halves-fit}
+use Rattle.expansions.proofs.Kronecker.Weighing.{halves-none, halves-more, halves-all, halves-fit}
 use Rattle.kronecker.proofs.weigh.half_charges.Goals as goal
 
 pub loop-s-init : goal.loop-s-init

@@ -1,8 +1,6 @@
-use borrow.Author.Rules.{rules}
 use Prim.Native.Nat.{◌-◌}
-use native.Mathlib.Omega.{arith}
 use Rattle.numbers.specs.Bytes.{at}
-use Rattle.expansions.proofs.Kronecker.Weighing.{HalvesTo, halves-none, halves-more, halves-all, halves-fit}
+use Rattle.expansions.proofs.Kronecker.Weighing.{HalvesTo}
 use Rattle.kronecker.proofs.weigh.half_charges.Given as goal
 
 abbrev pub invariant-loop-s : goal.invariant-loop-s

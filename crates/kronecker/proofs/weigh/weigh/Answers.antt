@@ -1,10 +1,8 @@
 -- `weigh` meets its contract: after s turns the first s weights of each half are there.
-use borrow.Author.Rules.{rules}
 use Prim.Native.Nat.{ℕ, ◌-◌}
 use native.Mathlib.Omega.{arith}
 use lib.ListN.{length-replicate}
-use Rattle.numbers.specs.Bytes.{at}
-use Rattle.expansions.proofs.Kronecker.Weighing.{WeighedTo, weighed-none, weighed-fit, weighed-more, weighed-all}
+use Rattle.expansions.proofs.Kronecker.Weighing.{weighed-none, weighed-fit, weighed-more, weighed-all}
 use Rattle.kronecker.proofs.weigh.weigh.Goals as goal
 
 pub loop-s-init : goal.loop-s-init

@@ -1,9 +1,6 @@
-use borrow.Author.Rules.{rules}
-use Prim.Native.Nat.{ℕ, ◌-◌}
-use native.Mathlib.Omega.{arith}
-use lib.ListN.{length-replicate}
+use Prim.Native.Nat.{◌-◌}
 use Rattle.numbers.specs.Bytes.{at}
-use Rattle.expansions.proofs.Kronecker.Weighing.{WeighedTo, weighed-none, weighed-fit, weighed-more, weighed-all}
+use Rattle.expansions.proofs.Kronecker.Weighing.{WeighedTo}
 use Rattle.kronecker.proofs.weigh.weigh.Given as goal
 
 abbrev pub invariant-loop-s : goal.invariant-loop-s

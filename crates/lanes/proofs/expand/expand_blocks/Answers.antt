@@ -1,5 +1,4 @@
 -- `expand_blocks` meets its contract: the lent part of `laid` holds the layout, and each output is expanded by itself.
-use borrow.Author.Rules.{rules}
 use mathlib.Core.Path.{ap, ◌∙◌}
 use native.Mathlib.Omega.{arith}
 use lib.ListN.{length}

@@ -1,5 +1,4 @@
 -- `expand_lanes` meets its contract: it is the transform of eight lanes.
-use borrow.Author.Rules.{rules}
 use mathlib.Core.Path.{◌∙◌}
 use Rattle.lanes.proofs.expand.Turning.{lanes-expanded}
 use Rattle.lanes.proofs.expand.expand_lanes.Goals as goal

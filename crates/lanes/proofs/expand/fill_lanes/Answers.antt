@@ -1,10 +1,8 @@
 -- `fill_lanes` meets its contract: the bytes of the blocks below q are filled.
-use borrow.Author.Rules.{rules}
-use Prim.Native.Nat.{◌-◌, ◌*◌}
+use Prim.Native.Nat.{◌-◌}
 use native.Mathlib.Omega.{arith}
-use lib.ListN.{length}
-use Rattle.numbers.proofs.Bytes.{Filled, filled_none, filled-all}
-use Rattle.lanes.proofs.expand.Laying.{laid_byte, laid_more}
+use Rattle.numbers.proofs.Bytes.{filled_none, filled-all}
+use Rattle.lanes.proofs.expand.Laying.{laid_more}
 use Rattle.lanes.proofs.expand.fill_lanes.Goals as goal
 
 pub loop-q-init : goal.loop-q-init

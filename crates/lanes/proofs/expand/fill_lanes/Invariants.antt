@@ -1,9 +1,7 @@
-use borrow.Author.Rules.{rules}
 use Prim.Native.Nat.{◌-◌, ◌*◌}
-use native.Mathlib.Omega.{arith}
 use lib.ListN.{length}
-use Rattle.numbers.proofs.Bytes.{Filled, filled_none, filled-all}
-use Rattle.lanes.proofs.expand.Laying.{laid_byte, laid_more}
+use Rattle.numbers.proofs.Bytes.{Filled}
+use Rattle.lanes.proofs.expand.Laying.{laid_byte}
 use Rattle.lanes.proofs.expand.fill_lanes.Given as goal
 
 abbrev pub invariant-loop-q : goal.invariant-loop-q

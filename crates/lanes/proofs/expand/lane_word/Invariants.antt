@@ -1,12 +1,8 @@
-use borrow.Author.Rules.{rules}
-use mathlib.Core.Path.{◌≡◌, ◌∙◌, ap}
-use Prim.Native.Nat.{ℕ, ◌+◌, ◌-◌, ◌≤◌}
-use native.Mathlib.Omega.{arith}
+use mathlib.Core.Path.{◌≡◌}
+use Prim.Native.Nat.{◌+◌, ◌-◌, ◌≤◌}
 use Rattle.numbers.specs.Bytes.{at}
 use Rattle.numbers.specs.Bits.{bit, pack}
 use Rattle.numbers.specs.Words.{word}
-use Rattle.numbers.proofs.Bits.{bit-lt}
-use Rattle.numbers.proofs.WordBits.{word-pack-none, word-pack-more, word-pack-fits}
 use Rattle.lanes.proofs.expand.lane_word.Given as goal
 
 abbrev pub invariant-loop-p : goal.invariant-loop-p

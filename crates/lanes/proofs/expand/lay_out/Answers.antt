@@ -1,5 +1,4 @@
 -- `lay_out` meets its contract: the lent part of `points` holds the first point of each block, and `offsets` the offset of each place.
-use borrow.Author.Rules.{rules}
 use mathlib.Core.Path.{◌≡◌, ◌∙◌, sym, ap}
 use mathlib.Core.List.{List}
 use Prim.Native.Nat.{ℕ, ◌-◌, ◌*◌, ◌/◌, ◌%◌, ◌^◌}

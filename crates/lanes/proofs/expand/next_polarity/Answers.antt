@@ -1,5 +1,4 @@
 -- `next_polarity` meets its contract: the lanes go from the polarity w to w + 1.
-use borrow.Author.Rules.{rules}
 use Rattle.lanes.proofs.expand.Turning.{lanes-turned}
 use Rattle.lanes.proofs.expand.next_polarity.Goals as goal
 

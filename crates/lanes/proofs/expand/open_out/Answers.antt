@@ -1,12 +1,10 @@
 -- `open_out` meets its contract: the points below y are filled, and `point` is the next.
 use borrow.Author.Rules.{rules}
-use mathlib.Core.Path.{◌≡◌, sym}
+use mathlib.Core.Path.{sym}
 use Prim.Native.Nat.{◌-◌}
 use native.Mathlib.Numerals.{add-one}
-use lib.ListN.{length}
-use Rattle.numbers.proofs.Bytes.{Filled, filled_none, filled_more, filled-all}
+use Rattle.numbers.proofs.Bytes.{filled_none, filled_more, filled-all}
 use Rattle.numbers.proofs.Shifts.{mask-byte}
-use Rattle.expansions.specs.Split.{spread}
 use Rattle.expansions.proofs.Split.{spread-zero, spread-lt}
 use Rattle.lanes.proofs.expand.Laying.{opened-byte}
 use Rattle.lanes.proofs.expand.open_out.Goals as goal

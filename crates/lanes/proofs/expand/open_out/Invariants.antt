@@ -1,13 +1,8 @@
-use borrow.Author.Rules.{rules}
-use mathlib.Core.Path.{◌≡◌, sym}
+use mathlib.Core.Path.{◌≡◌}
 use Prim.Native.Nat.{◌-◌}
-use native.Mathlib.Numerals.{add-one}
 use lib.ListN.{length}
-use Rattle.numbers.proofs.Bytes.{Filled, filled_none, filled_more, filled-all}
-use Rattle.numbers.proofs.Shifts.{mask-byte}
+use Rattle.numbers.proofs.Bytes.{Filled}
 use Rattle.expansions.specs.Split.{spread}
-use Rattle.expansions.proofs.Split.{spread-zero, spread-lt}
-use Rattle.lanes.proofs.expand.Laying.{opened-byte}
 use Rattle.lanes.proofs.expand.open_out.Given as goal
 
 abbrev pub invariant-loop-y : goal.invariant-loop-y

@@ -1,5 +1,4 @@
 -- `outputs_apart` meets its contract: the rule of the 256 bytes is one test (`word-apart`).
-use borrow.Author.Rules.{rules}
 use Prim.Native.Nat.{◌*◌}
 use native.Mathlib.Omega.{arith}
 use lib.Bits.{and_le_r}

@@ -1,17 +1,9 @@
-use borrow.Author.Rules.{rules}
-use mathlib.Core.Path.{◌≡◌, refl, ap, ap₂, ◌∙◌}
-use mathlib.Core.List.{List}
-use Prim.Native.Nat.{ℕ, ◌+◌, ◌-◌, ◌*◌, ◌/◌, ◌^◌, ◌≤◌}
-use native.Mathlib.Numerals.{add-one}
-use native.Mathlib.Omega.{arith}
-use lib.Bits.{bit_and}
-use lib.ListN.{length, set, length-set}
+use mathlib.Core.Path.{◌≡◌}
+use Prim.Native.Nat.{◌-◌, ◌*◌, ◌≤◌}
+use lib.ListN.{length}
 use lib.Seq.{sets}
 use Rattle.numbers.specs.Bytes.{tabulate}
 use Rattle.numbers.specs.Words.{byte}
-use Rattle.numbers.proofs.Bytes.{sets-tabulate}
-use Rattle.numbers.proofs.Shifts.{mask-byte}
-use Rattle.numbers.proofs.Words.{byte-masked}
 use Rattle.lanes.proofs.expand.put_lanes.Given as goal
 
 abbrev pub invariant-loop-o : goal.invariant-loop-o

@@ -1,14 +1,8 @@
-use borrow.Author.Rules.{rules}
-use mathlib.Core.Path.{◌≡◌, ap, ◌∙◌}
+use mathlib.Core.Path.{◌≡◌}
 use Prim.Native.Nat.{ℕ, ◌+◌, ◌-◌, ◌*◌, ◌≤◌, ◌<◌}
-use native.Mathlib.Numerals.{add-one}
-use lib.Bits.{bit_and, and_mask}
 use Rattle.numbers.specs.Bytes.{at}
 use Rattle.numbers.specs.Bits.{pack}
-use Rattle.numbers.proofs.Pack.{pack-none}
-use Rattle.expansions.proofs.Least.{below-one-more}
-use Rattle.lanes.proofs.terms.Outputs.{output_bit, digit_lt, outputs-more, outputs-fit, rows-coefficient}
-use native.Mathlib.Omega.{arith}
+use Rattle.lanes.proofs.terms.Outputs.{output_bit}
 use Rattle.lanes.proofs.terms.coefficient_in.Given as goal
 
 abbrev pub invariant-loop-o : goal.invariant-loop-o

@@ -1,9 +1,7 @@
 -- The loop fills the array by `coefficient_at`, from the front.
-use borrow.Author.Rules.{rules}
 use Prim.Native.Nat.{◌-◌}
-use Rattle.numbers.specs.Bytes.{at}
 use Rattle.lanes.specs.Inner.Terms.{coefficient_at}
-use Rattle.numbers.proofs.Bytes.{Filled, filled_none, filled_more, filled-all}
+use Rattle.numbers.proofs.Bytes.{filled_none, filled_more, filled-all}
 use native.Mathlib.Omega.{arith}
 use Rattle.lanes.proofs.terms.coefficients.Goals as goal
 

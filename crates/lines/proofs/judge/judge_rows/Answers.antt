@@ -1,12 +1,9 @@
 -- `judge_rows` meets its contract. The invariant: the cursor stands in the text, and the lines from it on mean what the lines from the
 -- start on mean. Each turn goes forward in the text.
-use mathlib.Core.Path.{◌≡◌, refl, ◌∙◌}
+use mathlib.Core.Path.{refl, ◌∙◌}
 use Prim.Native.Nat.{◌-◌}
 use native.Mathlib.Omega.{arith}
-use borrow.Author.Rules.{rules}
-use lib.ListN.{length}
 use Rattle.lines.specs.Rows.{stands_for}
-use Rattle.lines.specs.Inner.Steps.{Within, rows_at}
 use Rattle.lines.proofs.judge.judge_rows.Goals as goal
 
 pub loop-c-init : goal.loop-c-init

@@ -1,9 +1,6 @@
-use mathlib.Core.Path.{◌≡◌, refl, ◌∙◌}
+use mathlib.Core.Path.{◌≡◌}
 use Prim.Native.Nat.{◌-◌}
-use native.Mathlib.Omega.{arith}
-use borrow.Author.Rules.{rules}
 use lib.ListN.{length}
-use Rattle.lines.specs.Rows.{stands_for}
 use Rattle.lines.specs.Inner.Steps.{Within, rows_at}
 use Rattle.lines.proofs.judge.judge_rows.Given as goal
 

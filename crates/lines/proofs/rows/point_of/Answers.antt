@@ -1,6 +1,5 @@
 -- `point_of` meets its contract, by what the number is.
 use mathlib.Core.Path.{ap, sym, ◌∙◌}
-use borrow.Author.Rules.{rules}
 use Rattle.fields.specs.declared.values.Number.{Number}
 use Rattle.fields.specs.declared.values.Cube.{Cube}
 use Rattle.fields.specs.declared.values.Cube.TheVariants.{Is, Wrong}

@@ -1,7 +1,6 @@
 -- `row` meets its contract: a word, a place or outputs that are not there make the line wrong.
 use Prim.Native.Nat.{◌+◌, ◌*◌, ◌<◌}
 use native.Mathlib.Omega.{arith}
-use borrow.Author.Rules.{rules}
 use borrow.Author.Tests.{not-true, not-false}
 use Rattle.lines.proofs.rows.row.Goals as goal
 use Rattle.lines.proofs.rows.row.Goals.{In-Is-outputs}

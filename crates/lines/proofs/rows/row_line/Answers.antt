@@ -1,6 +1,5 @@
 -- `row_line` meets its contract, by those of its parts.
 use mathlib.Core.Path.{◌∙◌}
-use borrow.Author.Rules.{rules}
 use Rattle.listings.specs.Parts.{bytes}
 use Rattle.lines.specs.Rows.{on_row, term_row, row_line}
 use Rattle.lines.proofs.RowLines.{on-small, term-small}

@@ -1,6 +1,5 @@
 -- `first_line` meets its contract, by those of its parts.
 use mathlib.Core.Path.{◌∙◌}
-use borrow.Author.Rules.{rules}
 use Rattle.listings.specs.Parts.{bytes}
 use Rattle.listings.specs.Listing.{form_word}
 use Rattle.listing_texts.specs.Form.{first_line}

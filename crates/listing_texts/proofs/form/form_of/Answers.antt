@@ -1,5 +1,4 @@
 -- `form_of` meets its contract: a number that is not read makes the line wrong.
-use borrow.Author.Rules.{rules}
 use Rattle.listing_texts.proofs.form.form_of.Goals as goal
 
 pub returns-in_default-fixed : goal.returns-in_default-fixed

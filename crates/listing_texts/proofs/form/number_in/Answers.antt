@@ -1,6 +1,5 @@
 -- `number_in` meets its contract, by those of its parts.
 use mathlib.Core.Path.{ap, ◌∙◌}
-use borrow.Author.Rules.{rules}
 use Rattle.fields.specs.Fields.{number}
 use Rattle.listing_texts.proofs.form.number_in.Goals as goal
 

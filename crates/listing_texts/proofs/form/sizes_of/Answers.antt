@@ -1,5 +1,4 @@
 -- `sizes_of` meets its contract: what stands before k, or a field k, that is not read makes the line wrong.
-use borrow.Author.Rules.{rules}
 use Rattle.listing_texts.proofs.form.sizes_of.Goals as goal
 
 pub returns : goal.returns

@@ -1,6 +1,5 @@
 -- `inv_line` meets its contract: the word, and then the mask.
 use mathlib.Core.Path.{◌∙◌}
-use borrow.Author.Rules.{rules}
 use borrow.Author.Tests.{not-true, not-false}
 use Rattle.listings.specs.Parts.{bytes}
 use Rattle.listing_texts.specs.Inv.{inv_said}

@@ -7,7 +7,6 @@ use Rattle.numbers.specs.Refusals.{sizes_refusal}
 use Rattle.expansions.specs.Classes.{most_mixed}
 use Rattle.expansions.specs.Numbered.{class_number}
 use Rattle.listing_texts.specs.Read.{alike}
-use borrow.Author.Rules.{rules}
 use Rattle.listing_texts.proofs.read.alike.Goals as goal
 use Rattle.listing_texts.proofs.read.alike.Goals.{After-class_number-2, After-judge_sizes}
 

@@ -2,7 +2,6 @@
 use borrow.Author.Tests.{eq-eqb, ne_eqb}
 use Rattle.listing_texts.specs.Read.{counts_right, lines_judged}
 use Rattle.listing_texts.specs.Inner.Judging.{stands_for}
-use borrow.Author.Rules.{rules}
 use Rattle.listing_texts.proofs.read.judge_counts.Goals as goal
 
 pub returns-then-form-counted : goal.returns-then-form-counted

@@ -3,7 +3,6 @@ use mathlib.Core.Path.{ap, ◌∙◌}
 use Rattle.lines.specs.Rows as rowsRead
 use Rattle.listing_texts.specs.Read.{lines_judged}
 use Rattle.listing_texts.specs.Inner.Judging.{stands_for}
-use borrow.Author.Rules.{rules}
 use Rattle.listing_texts.proofs.read.judge_terms.Goals as goal
 
 pub returns-in-Done : goal.returns-in-Done

@@ -13,7 +13,6 @@ use Rattle.listing_texts.specs.ReadBack.{YieldsRecord}
 use Rattle.listing_texts.specs.Inner.Judging.{stands_for}
 use Rattle.listing_texts.proofs.Exactness.{listing-read}
 use Rattle.listing_texts.proofs.ReadBack.{yields-record}
-use borrow.Author.Rules.{rules}
 use Rattle.listing_texts.proofs.read.read_listing.Goals as goal
 
 pub shown_listing-requires : goal.shown_listing-requires

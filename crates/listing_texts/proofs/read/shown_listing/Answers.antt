@@ -6,7 +6,6 @@ use Rattle.numbers.specs.Bytes.{at}
 use Rattle.shown_rows.specs.Rows.{complemented_in, shown_blocks}
 use Rattle.shown_rows.proofs.shown.Bytes.{lower-bytes, upper-bytes, blocks-ext}
 use Rattle.listing_texts.specs.Record.{shown_expansion, shown_read}
-use borrow.Author.Rules.{rules}
 use Rattle.listing_texts.proofs.read.shown_listing.Goals as goal
 
 pub returns : goal.returns

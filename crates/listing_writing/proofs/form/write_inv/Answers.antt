@@ -1,5 +1,4 @@
 -- `write_inv` meets its contract: the word, and what every line with outputs ends with, one after the other.
-use borrow.Author.Rules.{rules}
 use Rattle.listings.specs.Parts.{bytes}
 use Rattle.listings.proofs.Lengths.{inv_line-parts}
 use Rattle.writing.proofs.Puts.{put_then}

@@ -1,5 +1,4 @@
 -- `write_listing` meets its contract: where the listing has room, its parts are written one after the other.
-use borrow.Author.Rules.{rules}
 use mathlib.Core.List.{List, [], ◌++◌}
 use mathlib.Core.Path.{◌≡◌}
 use Prim.Native.Nat.{ℕ, ◌+◌, ◌≤◌}

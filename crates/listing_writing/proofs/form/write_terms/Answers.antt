@@ -1,21 +1,16 @@
 -- `write_terms` meets its contract: after t turns the lines of the products below t are written.
-use borrow.Author.Rules.{rules}
-use mathlib.Core.List.{List}
 use mathlib.Core.Path.{◌≡◌, ◌∙◌}
-use Prim.Native.Nat.{ℕ, ◌-◌, ◌≤◌, ◌<◌, ◌^◌}
+use Prim.Native.Nat.{ℕ, ◌-◌, ◌<◌, ◌^◌}
 use native.Mathlib.Numerals.{add-one}
 use Rattle.numbers.specs.Bytes.{at}
-use Rattle.expansions.specs.Members.{polarity}
 use Rattle.search.specs.Expansion.{term_polarity}
 use Rattle.search.proofs.polarity.Fitting.{term_polarity-fits}
 use Rattle.numbers.specs.Nonzero.{over_nonzero}
-use Rattle.listings.specs.Listing.{cube, term_lines}
-use Rattle.writing.specs.Put.{Put}
+use Rattle.listings.specs.Listing.{cube}
 use Rattle.writing.proofs.Puts.{put-none, put_then, put-length}
 use Rattle.listings.proofs.Lengths.{cube_lines-le}
 use Rattle.numbers.proofs.Shifts.{one_shifted, points-le}
 use native.Mathlib.Omega.{arith}
-use Rattle.listing_writing.specs.declared.form.Member.{Member}
 use Rattle.listing_writing.proofs.form.write_terms.Goals as goal
 use Rattle.listing_writing.proofs.form.write_terms.Invariants.{polarity_in}
 use Rattle.listing_writing.proofs.form.write_terms.Goals.{Start}

@@ -1,5 +1,4 @@
 -- `kronecker_length` meets its contract: the digits, the letters and the products that the record states give the listing's length.
-use borrow.Author.Rules.{rules}
 use mathlib.Core.List.{List, [], ◌∷◌}
 use mathlib.Core.Path.{◌≡◌}
 use Prim.Native.Nat.{ℕ, ◌+◌, ◌*◌, ◌≤◌}

@@ -1,5 +1,4 @@
 -- `write_kron` meets its contract: the word, two numbers, the letters, two numbers and the line's end, one after the other.
-use borrow.Author.Rules.{rules}
 use mathlib.Core.List.{[], ◌∷◌}
 use native.Mathlib.Omega.{arith}
 use Rattle.numbers.specs.Bytes.{at}

@@ -1,5 +1,4 @@
 -- `write_term` meets its contract: no byte where the coefficient is 0, and else the line's parts, one after the other.
-use borrow.Author.Rules.{rules}
 use mathlib.Core.Path.{ap}
 use Prim.Native.Nat.{◌+◌, ◌≤◌}
 use native.Mathlib.Omega.{arith}

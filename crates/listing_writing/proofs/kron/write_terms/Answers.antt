@@ -1,16 +1,13 @@
 -- `write_terms` meets its contract: after t turns the lines of the products below t are written.
-use borrow.Author.Rules.{rules}
 use mathlib.Core.Path.{◌≡◌}
-use Prim.Native.Nat.{◌-◌, ◌≤◌, ◌<◌, ◌^◌}
+use Prim.Native.Nat.{◌-◌, ◌<◌, ◌^◌}
 use native.Mathlib.Numerals.{add-one}
 use native.Mathlib.Omega.{arith}
 use Rattle.numbers.specs.Bytes.{at}
 use Rattle.numbers.specs.Nonzero.{over_nonzero}
 use Rattle.numbers.proofs.Shifts.{one_shifted, points-le}
-use Rattle.listings.specs.Listing.{cube_lines}
 use Rattle.listings.specs.Kronecker.{kronecker_cube}
 use Rattle.listings.proofs.Lengths.{cube_lines-le}
-use Rattle.writing.specs.Put.{Put}
 use Rattle.writing.proofs.Puts.{put-none, put_then, put-length}
 use Rattle.listing_writing.proofs.kron.write_terms.Goals as goal
 

@@ -1,5 +1,4 @@
 -- `begin_term` meets its contract: the word and the tab, one after the other.
-use borrow.Author.Rules.{rules}
 use Rattle.listings.specs.Parts.{bytes}
 use Rattle.writing.proofs.Puts.{put_then}
 use Rattle.listing_writing.proofs.terms.begin_term.Goals as goal

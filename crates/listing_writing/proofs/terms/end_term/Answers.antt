@@ -1,5 +1,4 @@
 -- `end_term` meets its contract: the tab, the outputs and the line's end, one after the other.
-use borrow.Author.Rules.{rules}
 use native.Mathlib.Omega.{arith}
 use Rattle.listings.proofs.Characters.{length-outputs}
 use Rattle.writing.proofs.Puts.{put_then, put-length}

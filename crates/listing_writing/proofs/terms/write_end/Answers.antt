@@ -1,5 +1,4 @@
 -- `write_end` meets its contract: the word and the line's end, one after the other.
-use borrow.Author.Rules.{rules}
 use Rattle.listings.specs.Parts.{bytes}
 use Rattle.listings.specs.Listing.{tabbed, line}
 use Rattle.writing.proofs.Puts.{put_then}

@@ -1,11 +1,9 @@
 -- `copy_places` meets its contract: the loop fills the buffer from the front.
-use borrow.Author.Rules.{rules}
 use mathlib.Core.Path.{refl}
 use native.Mathlib.Omega.{arith}
 use Prim.Native.Nat.{◌-◌}
-use lib.ListN.{length, length-set}
-use Rattle.numbers.specs.Bytes.{at}
-use Rattle.numbers.proofs.Bytes.{Filled, filled_none, filled_more, filled-all}
+use lib.ListN.{length-set}
+use Rattle.numbers.proofs.Bytes.{filled_none, filled_more, filled-all}
 use Rattle.minimise_calls.proofs.calls.copy_places.Goals as goal
 
 pub loop-q-init : goal.loop-q-init

@@ -1,10 +1,7 @@
-use borrow.Author.Rules.{rules}
-use mathlib.Core.Path.{refl}
-use native.Mathlib.Omega.{arith}
 use Prim.Native.Nat.{◌-◌}
-use lib.ListN.{length, length-set}
+use lib.ListN.{length}
 use Rattle.numbers.specs.Bytes.{at}
-use Rattle.numbers.proofs.Bytes.{Filled, filled_none, filled_more, filled-all}
+use Rattle.numbers.proofs.Bytes.{Filled}
 use Rattle.minimise_calls.proofs.calls.copy_places.Given as goal
 
 abbrev pub invariant-loop-q : goal.invariant-loop-q

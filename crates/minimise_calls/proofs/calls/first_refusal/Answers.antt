@@ -1,6 +1,5 @@
 -- `first_refusal` meets its contract: each return is one test of `refusal`, those before it passed.
 -- where the call was entered, from past the test on n, m and k
-use borrow.Author.Rules.{rules}
 use borrow.Author.Tests.{eq-eqb, ne_eqb}
 use mathlib.Core.Path.{◌≡◌, sym, ◌∙◌}
 use Prim.Native.Nat.{◌-◌, ◌*◌, ◌^◌, ◌%◌}

@@ -1,5 +1,4 @@
 -- `minimise` meets its contract.
-use borrow.Author.Rules.{rules}
 use Rattle.expansions.specs.declared.kinds.Class.TheVariants.{Block}
 use Rattle.expansions.specs.declared.families.Family.TheVariants.{One}
 use mathlib.Core.Path.{sym, ◌∙◌}

@@ -1,7 +1,6 @@
 -- `check_numbers` meets its contract, case by case.
 use mathlib.Core.Path.{ap, sym}
 use Rattle.mipaldoz.specs.Answers.{check_numbers}
-use borrow.Author.Rules.{rules}
 use Rattle.mipaldoz.proofs.check.check_numbers.Goals as goal
 
 pub returns-in-Same : goal.returns-in-Same

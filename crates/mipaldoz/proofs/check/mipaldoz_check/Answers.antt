@@ -1,5 +1,4 @@
 -- `mipaldoz_check` meets its contract.
-use borrow.Author.Rules.{rules}
 use Rattle.fitter.specs.Check.{Check}
 use Rattle.mipaldoz.specs.Answers.{check_numbers}
 use Rattle.mipaldoz.proofs.Answers.{answer-told}

@@ -1,5 +1,4 @@
 -- `minimum_numbers` meets its contract, case by case.
-use borrow.Author.Rules.{rules}
 use mathlib.Core.Path.{ap, sym}
 use Rattle.mipaldoz.specs.Answers.{minimum_numbers}
 use Rattle.mipaldoz.proofs.minimise.minimum_numbers.Goals as goal

@@ -1,5 +1,4 @@
 -- `mipaldoz_minimise` meets its contract.
-use borrow.Author.Rules.{rules}
 use Rattle.minimise_calls.specs.Calls.{Minimise}
 use Rattle.mipaldoz.specs.Answers.{minimum_numbers}
 use Rattle.mipaldoz.proofs.Answers.{answer-told}

@@ -1,5 +1,4 @@
 -- `mipaldoz_quote` meets its contract.
-use borrow.Author.Rules.{rules}
 use Rattle.quote_text.specs.Quote.{Quote}
 use Rattle.mipaldoz.specs.Answers.{quotation_numbers}
 use Rattle.mipaldoz.proofs.Answers.{answer-told}

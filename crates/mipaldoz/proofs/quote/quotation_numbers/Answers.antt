@@ -1,5 +1,4 @@
 -- `quotation_numbers` meets its contract, case by case.
-use borrow.Author.Rules.{rules}
 use mathlib.Core.Path.{ap, sym}
 use Rattle.mipaldoz.specs.Answers.{quotation_numbers}
 use Rattle.mipaldoz.proofs.quote.quotation_numbers.Goals as goal

@@ -1,5 +1,4 @@
 -- `design_numbers` meets its contract, by the kind of k, the number of its class and the number of the family.
-use borrow.Author.Rules.{rules}
 use Rattle.mipaldoz.specs.Answers.{design_numbers}
 use Rattle.mipaldoz.proofs.table_text.design_numbers.Goals as goal
 

@@ -1,5 +1,4 @@
 -- `listing_numbers` meets its contract, case by case.
-use borrow.Author.Rules.{rules}
 use mathlib.Core.Path.{ap, sym}
 use Rattle.mipaldoz.specs.Answers.{listing_numbers}
 use Rattle.mipaldoz.proofs.table_text.listing_numbers.Goals as goal

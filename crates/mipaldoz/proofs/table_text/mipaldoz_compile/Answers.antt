@@ -1,5 +1,4 @@
 -- `mipaldoz_compile` meets its contract.
-use borrow.Author.Rules.{rules}
 use Rattle.text.specs.Compile.{Compile}
 use Rattle.mipaldoz.specs.Answers.{listing_numbers}
 use Rattle.mipaldoz.proofs.Answers.{answer-told}

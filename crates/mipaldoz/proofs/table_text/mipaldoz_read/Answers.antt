@@ -1,5 +1,4 @@
 -- `mipaldoz_read` meets its contract.
-use borrow.Author.Rules.{rules}
 use mathlib.Core.Path.{ap, ◌∙◌}
 use Rattle.mipaldoz.specs.Answers.{read_numbers}
 use Rattle.mipaldoz.proofs.table_text.mipaldoz_read.Goals as goal

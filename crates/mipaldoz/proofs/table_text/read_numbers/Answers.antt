@@ -1,5 +1,4 @@
 -- `read_numbers` meets its contract, case by case.
-use borrow.Author.Rules.{rules}
 use mathlib.Core.Path.{ap, sym, ◌∙◌}
 use Rattle.table_texts.specs.Inner.Reading.{stands_for}
 use Rattle.mipaldoz.specs.Answers.{read_numbers}

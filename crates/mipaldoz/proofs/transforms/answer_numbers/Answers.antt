@@ -1,5 +1,4 @@
 -- `answer_numbers` meets its contract, case by case.
-use borrow.Author.Rules.{rules}
 use mathlib.Core.Path.{ap, sym}
 use Rattle.mipaldoz.specs.Answers.{transform_numbers}
 use Rattle.mipaldoz.proofs.transforms.answer_numbers.Goals as goal

@@ -1,5 +1,4 @@
 -- `mipaldoz_forward` meets its contract.
-use borrow.Author.Rules.{rules}
 use Rattle.transform_calls.specs.Calls.{Forward}
 use Rattle.mipaldoz.specs.Answers.{transform_numbers}
 use Rattle.mipaldoz.proofs.Answers.{answer-told}

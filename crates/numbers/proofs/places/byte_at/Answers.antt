@@ -1,5 +1,4 @@
 -- `byte_at` meets its contract.
-use borrow.Author.Rules.{rules}
 use mathlib.Core.Path.{sym}
 use lib.ListN.{get_or-eq_default}
 use Rattle.numbers.proofs.places.byte_at.Goals as goal

@@ -1,10 +1,8 @@
-use borrow.Author.Rules.{rules}
-use mathlib.Core.Path.{◌≡◌, ◌∙◌, ap}
-use Prim.Native.Nat.{ℕ, ◌-◌}
+use mathlib.Core.Path.{◌≡◌}
+use Prim.Native.Nat.{◌-◌}
 use lib.ListN.{length}
-use Rattle.numbers.specs.Bytes.{at, tabulate}
-use Rattle.numbers.proofs.Bytes.{Filled, filled_none, filled_more, filled-all}
-use native.Mathlib.Omega.{arith}
+use Rattle.numbers.specs.Bytes.{at}
+use Rattle.numbers.proofs.Bytes.{Filled}
 use Rattle.numbers.proofs.places.padded.Given as goal
 
 abbrev pub invariant-loop-q : goal.invariant-loop-q

@@ -1,5 +1,4 @@
 -- `is_table` meets its contract: each return is one test of `is_table`, those before it passed.
-use borrow.Author.Rules.{rules}
 use mathlib.Core.Path.{◌≡◌, sym, ◌∙◌}
 use Prim.Native.Nat.{◌*◌, ◌^◌, ◌%◌}
 use borrow.Author.Tests.{eq-eqb, ne_eqb}

@@ -1,5 +1,4 @@
 -- `judge_sizes` meets its contract: the table's refusal comes first, and then each return is one test on k.
-use borrow.Author.Rules.{rules}
 use borrow.Author.Tests.{le-leb, lt-leb}
 use mathlib.Core.Path.{sym, ◌∙◌}
 use Rattle.numbers.specs.Refusals.{sizes_refusal}

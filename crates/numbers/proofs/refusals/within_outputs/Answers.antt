@@ -1,14 +1,13 @@
 -- `within_outputs` meets its contract: the OR of the bytes passed, with the bytes that are left, tells what all the bytes tell.
-use borrow.Author.Rules.{rules}
 use mathlib.Core.Path.{◌≡◌, ap, sym, ◌∙◌}
-use Prim.Native.Nat.{ℕ, ◌-◌, ◌^◌, ◌≤◌, ◌<◌}
+use Prim.Native.Nat.{ℕ, ◌^◌, ◌<◌}
 use lib.Bits.{or_lt}
 use lib.Dec.{ltb}
 use lib.ListN.{length}
 use lib.Pow.{pow_mono}
 use borrow.Author.Tests.{lt-ltb}
 use Rattle.numbers.proofs.Shifts.{one_shifted}
-use Rattle.numbers.proofs.refusals.Outputs.{Seen, seen_none, seen_more, seen_all}
+use Rattle.numbers.proofs.refusals.Outputs.{seen_none, seen_more, seen_all}
 use native.Mathlib.Omega.{arith}
 use Rattle.numbers.proofs.refusals.within_outputs.Goals as goal
 

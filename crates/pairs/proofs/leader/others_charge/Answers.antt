@@ -1,9 +1,8 @@
 -- The loop adds up what the blocks below j cost, each under its first least choice.
-use borrow.Author.Rules.{rules}
 use Prim.Native.Nat.{◌-◌}
 use native.Mathlib.Omega.{arith}
 use Rattle.numbers.specs.Bytes.{at}
-use Rattle.pairs.proofs.leader.Charging.{BlocksSummed, blocks-first, blocks-few, blocks-lt, blocks_more, blocks-all}
+use Rattle.pairs.proofs.leader.Charging.{blocks-first, blocks-few, blocks-lt, blocks_more, blocks-all}
 use Rattle.pairs.proofs.leader.others_charge.Goals as goal
 
 pub overflow_sub-count : goal.overflow_sub-count

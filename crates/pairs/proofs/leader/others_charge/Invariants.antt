@@ -1,8 +1,6 @@
-use borrow.Author.Rules.{rules}
 use Prim.Native.Nat.{◌-◌}
-use native.Mathlib.Omega.{arith}
 use Rattle.numbers.specs.Bytes.{at}
-use Rattle.pairs.proofs.leader.Charging.{BlocksSummed, blocks-first, blocks-few, blocks-lt, blocks_more, blocks-all}
+use Rattle.pairs.proofs.leader.Charging.{BlocksSummed}
 use Rattle.pairs.proofs.leader.others_charge.Given as goal
 
 abbrev pub invariant-loop-j : goal.invariant-loop-j

@@ -1,5 +1,4 @@
 -- `pair_charge` meets its contract: block 0 costs what it costs under its first least choice, and the other blocks add 256 times their charges.
-use borrow.Author.Rules.{rules}
 use mathlib.Core.Path.{◌≡◌, sym, ap, ◌∙◌}
 use Prim.Native.Nat.{ℕ, ◌+◌, ◌*◌, ◌-◌}
 use native.Mathlib.Omega.{arith}

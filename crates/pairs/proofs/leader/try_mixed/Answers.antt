@@ -1,5 +1,4 @@
 -- `try_mixed` meets its contract: `mixed` has another number of inputs, or every i is tried with it.
-use borrow.Author.Rules.{rules}
 use mathlib.Core.Path.{sym, ◌∙◌}
 use native.Mathlib.Omega.{arith}
 use Rattle.lanes.proofs.expand.Room.{room_fits, room-lent, room-counted}

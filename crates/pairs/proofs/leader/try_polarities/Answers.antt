@@ -1,12 +1,10 @@
 -- `try_polarities` meets its contract: the leader leads the pairs of `mixed` whose polarity, closed up, is below w.
-use borrow.Author.Rules.{rules}
 use mathlib.Core.Path.{◌∙◌}
 use Prim.Native.Nat.{◌-◌}
 use native.Mathlib.Omega.{arith}
-use Rattle.numbers.specs.Bytes.{at}
 use Rattle.numbers.proofs.Shifts.{one_shifted}
 use Rattle.lanes.proofs.expand.Room.{blocks-le, room-le}
-use Rattle.pairs.proofs.leader.Trying.{Trying, trying-none, trying-next, trying-all}
+use Rattle.pairs.proofs.leader.Trying.{trying-none, trying-next, trying-all}
 use Rattle.pairs.proofs.leader.try_polarities.Goals as goal
 
 pub expand_blocks-requires : goal.expand_blocks-requires

@@ -1,5 +1,4 @@
 -- `try_polarity` meets its contract: the pair costs less than the leader, or it does not.
-use borrow.Author.Rules.{rules}
 use mathlib.Core.Path.{ap, ap₂, ◌∙◌}
 use Prim.Native.Nat.{ℕ, ◌+◌}
 use native.Mathlib.Omega.{arith}

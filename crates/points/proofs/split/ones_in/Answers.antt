@@ -3,7 +3,7 @@ use borrow.Author.Rules.{rules}
 use mathlib.Core.Path.{◌∙◌, ap}
 use Prim.Native.Nat.{ℕ, ◌-◌}
 use lib.Count.{ones_in}
-use Rattle.points.proofs.split.Walks.{Passed, passed_none, passed-more, passed-fits, passed-all}
+use Rattle.points.proofs.split.Walks.{passed_none, passed-more, passed-fits, passed-all}
 use Rattle.points.proofs.split.ones_in.Goals as goal
 
 pub loop-b-init : goal.loop-b-init

@@ -1,8 +1,5 @@
-use borrow.Author.Rules.{rules}
-use mathlib.Core.Path.{◌∙◌, ap}
-use Prim.Native.Nat.{ℕ, ◌-◌}
-use lib.Count.{ones_in}
-use Rattle.points.proofs.split.Walks.{Passed, passed_none, passed-more, passed-fits, passed-all}
+use Prim.Native.Nat.{◌-◌}
+use Rattle.points.proofs.split.Walks.{Passed}
 use Rattle.points.proofs.split.ones_in.Given as goal
 
 abbrev pub invariant-loop-b : goal.invariant-loop-b

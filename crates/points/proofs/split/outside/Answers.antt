@@ -1,5 +1,4 @@
 -- `outside` meets its contract: all inputs, less those of the mixed set.
-use borrow.Author.Rules.{rules}
 use mathlib.Core.Path.{◌≡◌, sym}
 use Prim.Native.Nat.{◌*◌, ◌%◌, ◌^◌}
 use lib.Pow.{pow_pos}

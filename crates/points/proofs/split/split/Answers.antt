@@ -8,7 +8,7 @@ use Rattle.expansions.specs.ClosedUp.{IsSplit}
 use Rattle.expansions.specs.Members.{block, place}
 use Rattle.expansions.specs.Split.{gather, outside}
 use Rattle.expansions.proofs.ClosedUp.{split-is}
-use Rattle.points.proofs.split.Walks.{Passed, passed_none, passed-more, passed-few, passed-fits, passed-outside, passed-all, digit-in, digit-out, gather-digit}
+use Rattle.points.proofs.split.Walks.{passed_none, passed-more, passed-few, passed-fits, passed-outside, passed-all, digit-in, digit-out, gather-digit}
 use Rattle.points.proofs.split.split.Goals as goal
 
 -- the words follow from the equations

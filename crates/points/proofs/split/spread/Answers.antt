@@ -5,7 +5,7 @@ use Prim.Native.Nat.{ℕ, ◌-◌}
 use Rattle.expansions.specs.ClosedUp.{OpenedOut}
 use Rattle.expansions.specs.Split.{spread}
 use Rattle.expansions.proofs.ClosedUp.{spread-opened-out}
-use Rattle.points.proofs.split.Walks.{Passed, passed_none, passed-more, passed-shift, passed-fits, passed-all, digit-in, spread-digit}
+use Rattle.points.proofs.split.Walks.{passed_none, passed-more, passed-shift, passed-fits, passed-all, digit-in, spread-digit}
 use Rattle.points.proofs.split.spread.Goals as goal
 
 -- the words follow from the equation

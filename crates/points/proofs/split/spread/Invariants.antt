@@ -1,10 +1,7 @@
-use borrow.Author.Rules.{rules}
-use mathlib.Core.Path.{◌≡◌, refl, ◌∙◌, ap}
-use Prim.Native.Nat.{ℕ, ◌-◌}
-use Rattle.expansions.specs.ClosedUp.{OpenedOut}
+use mathlib.Core.Path.{◌≡◌}
+use Prim.Native.Nat.{◌-◌}
 use Rattle.expansions.specs.Split.{spread}
-use Rattle.expansions.proofs.ClosedUp.{spread-opened-out}
-use Rattle.points.proofs.split.Walks.{Passed, passed_none, passed-more, passed-shift, passed-fits, passed-all, digit-in, spread-digit}
+use Rattle.points.proofs.split.Walks.{Passed}
 use Rattle.points.proofs.split.spread.Given as goal
 
 abbrev pub invariant-loop-b : goal.invariant-loop-b

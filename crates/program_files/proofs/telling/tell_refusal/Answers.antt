@@ -1,6 +1,5 @@
 -- `tell_refusal` meets its contract: what is written is what `explain` hands out, and as long.
 use mathlib.Core.Path.{sym}
-use borrow.Author.Rules.{rules}
 use borrow.Author.Tests.{eq-eqb, ne_eqb}
 use lib.Seq.{length-take-le}
 use Rattle.program_files.proofs.telling.tell_refusal.Goals as goal

@@ -1,5 +1,4 @@
 -- `print_quotation` meets its contract: the line of the quotation stands in the bytes.
-use borrow.Author.Rules.{rules}
 use mathlib.Core.Path.{sym}
 use lib.Seq.{length-take-le}
 use Rattle.quote_text.proofs.Printed.{print-holds}

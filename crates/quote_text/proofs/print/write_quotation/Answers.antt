@@ -1,5 +1,4 @@
 -- `write_quotation` meets its contract: the line of a word and numbers, which have at most four digits each.
-use borrow.Author.Rules.{rules}
 use mathlib.Core.List.{[], ◌∷◌}
 use native.Mathlib.Omega.{arith}
 use Rattle.listings.specs.Parts.{bytes}

@@ -1,5 +1,4 @@
 -- `quote_kind` meets its contract: the numbers are those of the answer.
-use borrow.Author.Rules.{rules}
 use mathlib.Core.Path.{sym, subst}
 use Rattle.table_texts.specs.Design.{kronecker_design}
 use Rattle.table_texts.proofs.Design.{table-sized}

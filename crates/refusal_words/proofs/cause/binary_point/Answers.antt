@@ -2,7 +2,6 @@
 use Rattle.listings.specs.Parts.{bytes}
 use Rattle.refusal_words.specs.Causes.{binary_point}
 use mathlib.Core.Path.{◌∙◌}
-use borrow.Author.Rules.{rules}
 use borrow.Author.Tests.{not-true, not-false}
 use Rattle.refusal_words.proofs.cause.binary_point.Goals as goal
 

@@ -1,6 +1,5 @@
 -- `cause_of` meets its contract: the numbers 1, 5 and 11 alone.
 use Rattle.refusal_words.specs.Causes.{cause_of}
-use borrow.Author.Rules.{rules}
 use borrow.Author.Tests.{eq-eqb, ne_eqb}
 use Rattle.refusal_words.proofs.cause.cause_of.Goals as goal
 

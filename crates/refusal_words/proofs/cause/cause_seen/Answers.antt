@@ -2,7 +2,6 @@
 use native.Mathlib.Omega.{arith}
 use borrow.Author.Tests.{lt-ltb, le-ltb}
 use Rattle.refusal_words.specs.Causes.{cause_seen}
-use borrow.Author.Rules.{rules}
 use Rattle.refusal_words.proofs.cause.cause_seen.Goals as goal
 
 pub returns-then-part_count-gt1 : goal.returns-then-part_count-gt1

@@ -1,7 +1,6 @@
 -- `fields_asked` meets its contract, word by word.
 use Rattle.listings.specs.Parts.{bytes}
 use Rattle.refusal_words.specs.Causes.{fields_asked}
-use borrow.Author.Rules.{rules}
 use Rattle.refusal_words.proofs.cause.fields_asked.Goals as goal
 
 pub returns-then-same : goal.returns-then-same

@@ -1,7 +1,6 @@
 -- `in_binary` meets its contract, by that of `mask`.
 use Rattle.refusal_words.specs.Causes.{in_binary}
 use native.Mathlib.Omega.{arith}
-use borrow.Author.Rules.{rules}
 use borrow.Author.Tests.{lt-ltb, le-ltb, le-leb, lt-leb}
 use Rattle.refusal_words.proofs.cause.in_binary.Goals as goal
 

@@ -1,7 +1,6 @@
 -- `too_many_fields` meets its contract, by those of `fields_asked` and `field_count`.
 use Rattle.refusal_words.specs.Causes.{too_many_fields}
 use native.Mathlib.Omega.{arith}
-use borrow.Author.Rules.{rules}
 use borrow.Author.Tests.{lt-ltb}
 use Rattle.refusal_words.proofs.cause.too_many_fields.Goals as goal
 

@@ -3,7 +3,6 @@ use native.Mathlib.Omega.{arith}
 use lib.ListN.{length}
 use borrow.Author.Tests.{lt-ltb, le-ltb}
 use Rattle.refusal_words.specs.Causes.{unended}
-use borrow.Author.Rules.{rules}
 use Rattle.refusal_words.proofs.cause.unended.Goals as goal
 
 pub returns-then-begun-eq0 : goal.returns-then-begun-eq0

@@ -1,6 +1,5 @@
 -- `refusal_in` meets its contract: the line is parted into its fields, and each number is read.
 use mathlib.Core.Path.{refl}
-use borrow.Author.Rules.{rules}
 use borrow.Author.Tests.{not-true, not-false}
 use Rattle.listings.specs.Parts.{bytes}
 use Rattle.refusal_words.specs.PrintedRefusal.{told}

@@ -1,5 +1,4 @@
 -- `explain` meets its contract: the sentence stands at the front of bytes that were zero.
-use borrow.Author.Rules.{rules}
 use Rattle.refusal_words.proofs.Explained.{said-holds}
 use Rattle.refusal_words.proofs.sentence.explain.Goals as goal
 

@@ -1,7 +1,6 @@
 -- `shown_name` meets its contract: a name of at most 4,096 bytes is shown whole.
 use mathlib.Core.Path.{sym}
 use native.Mathlib.Omega.{arith}
-use borrow.Author.Rules.{rules}
 use lib.Seq.{take_all, length-take-le}
 use Rattle.refusal_words.proofs.sentence.shown_name.Goals as goal
 

@@ -3,7 +3,6 @@ use native.Mathlib.Omega.{arith}
 use Rattle.listings.specs.Parts.{bytes}
 use Rattle.writing.proofs.Puts.{put-none}
 use Rattle.refusal_words.specs.Sentences.{cause_words}
-use borrow.Author.Rules.{rules}
 use Rattle.refusal_words.proofs.sentence.write_cause.Goals as goal
 
 pub returns-in-Unseen : goal.returns-in-Unseen

@@ -5,7 +5,6 @@ use Rattle.listings.specs.Parts.{bytes}
 use Rattle.listings.proofs.Characters.{digit_count-in, length-decimal}
 use Rattle.writing.proofs.Puts.{put-none, put_then}
 use Rattle.refusal_words.specs.Sentences.{line_words}
-use borrow.Author.Rules.{rules}
 use Rattle.refusal_words.proofs.sentence.write_line_words.Goals as goal
 
 pub returns-then-line-eq0 : goal.returns-then-line-eq0

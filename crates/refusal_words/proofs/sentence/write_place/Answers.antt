@@ -1,7 +1,6 @@
 -- `write_place` meets its contract: the name, the line and a colon, one after another.
 use mathlib.Core.Path.{ap}
 use native.Mathlib.Omega.{arith}
-use borrow.Author.Rules.{rules}
 use lib.ListN.{length, length-take}
 use Rattle.listings.specs.Parts.{bytes}
 use Rattle.writing.proofs.Puts.{put_then}

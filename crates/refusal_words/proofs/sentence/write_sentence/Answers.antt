@@ -1,6 +1,5 @@
 -- `write_sentence` meets its contract: the place, the words, the cause and the line's end, one after another.
 use native.Mathlib.Omega.{arith}
-use borrow.Author.Rules.{rules}
 use Rattle.writing.proofs.Puts.{put_then}
 use Rattle.refusal_words.specs.Sentences.{sentence}
 use Rattle.refusal_words.proofs.sentence.write_sentence.Goals as goal

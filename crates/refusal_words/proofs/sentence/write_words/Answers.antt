@@ -5,7 +5,6 @@ use native.Mathlib.Omega.{arith}
 use lib.ListN.{get_or-eq_default}
 use Rattle.listings.specs.Parts.{bytes}
 use Rattle.refusal_words.specs.Sentences.{refusal_words, words_in_order}
-use borrow.Author.Rules.{rules}
 use Rattle.refusal_words.proofs.sentence.write_words.Goals as goal
 
 pub returns-in-0 : goal.returns-in-0

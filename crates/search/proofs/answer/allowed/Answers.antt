@@ -1,5 +1,4 @@
 -- `allowed` meets its contract: the two tests of `searchable`, the second where the first passed.
-use borrow.Author.Rules.{rules}
 use mathlib.Core.Path.{◌≡◌, sym, ap, ◌∙◌}
 use Prim.Native.Nat.{ℕ}
 use lib.Dec.{eqb}

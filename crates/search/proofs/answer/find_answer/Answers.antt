@@ -1,5 +1,4 @@
 -- `find_answer` meets its contract.
-use borrow.Author.Rules.{rules}
 use mathlib.Core.Path.{sym, ◌∙◌}
 use Rattle.search.specs.Inner.Answer.{searched}
 use Rattle.search.proofs.answer.Searchable.{allowed-sizes, allowed-table, searched-found}

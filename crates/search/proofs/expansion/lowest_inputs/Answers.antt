@@ -2,7 +2,6 @@
 use mathlib.Core.Path.{◌≡◌}
 use Prim.Native.Nat.{min}
 use native.Mathlib.Omega.{arith}
-use borrow.Author.Rules.{rules}
 use lib.Pow.{pow_pos}
 use Rattle.numbers.proofs.Shifts.{one_shifted}
 use Rattle.search.proofs.expansion.lowest_inputs.Goals as goal

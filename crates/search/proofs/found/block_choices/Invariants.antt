@@ -1,9 +1,7 @@
-use borrow.Author.Rules.{rules}
 use Prim.Native.Nat.{◌-◌}
 use Rattle.numbers.specs.Bytes.{at}
 use Rattle.search.specs.Inner.Search.{choice_at}
-use Rattle.numbers.proofs.Bytes.{Filled, filled_none, filled_more, filled-all}
-use native.Mathlib.Omega.{arith}
+use Rattle.numbers.proofs.Bytes.{Filled}
 use Rattle.search.proofs.found.block_choices.Given as goal
 
 abbrev pub invariant-loop-j : goal.invariant-loop-j

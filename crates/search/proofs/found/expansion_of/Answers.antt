@@ -1,6 +1,5 @@
 -- The leader's M and i are the answer's, and so are the block functions that `lanes` holds for them. Of the empty record with which it begins
 -- every field is set.
-use borrow.Author.Rules.{rules}
 use mathlib.Core.Path.{◌≡◌, ap, ◌∙◌}
 use mathlib.Core.List.{List}
 use Prim.Native.Nat.{ℕ, ◌-◌, ◌*◌, ◌/◌, ◌^◌}

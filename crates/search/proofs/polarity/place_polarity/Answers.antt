@@ -1,5 +1,4 @@
 -- `place_polarity` meets its contract.
-use borrow.Author.Rules.{rules}
 use mathlib.Core.Path.{sym, ◌∙◌}
 use Rattle.search.proofs.polarity.place_polarity.Goals as goal
 

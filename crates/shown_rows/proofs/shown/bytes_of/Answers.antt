@@ -1,12 +1,11 @@
 -- `bytes_of` meets its contract: after t turns the first t bytes are filled.
 use borrow.Author.Rules.{rules}
-use mathlib.Core.Path.{◌≡◌, ap, ◌∙◌}
+use mathlib.Core.Path.{ap, ◌∙◌}
 use Prim.Native.Nat.{ℕ, ◌-◌, ◌/◌, ◌%◌, ◌^◌}
 use native.Mathlib.Omega.{arith}
 use lib.Bits.{and_mask, mask_lt}
-use lib.ListN.{length}
 use Rattle.numbers.specs.Bytes.{at, tabulate}
-use Rattle.numbers.proofs.Bytes.{Filled, filled_none, filled_more, filled-all}
+use Rattle.numbers.proofs.Bytes.{filled_none, filled_more, filled-all}
 use Rattle.shown_rows.proofs.shown.bytes_of.Goals as goal
 
 pub loop-t-init : goal.loop-t-init

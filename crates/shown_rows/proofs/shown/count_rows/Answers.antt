@@ -1,6 +1,4 @@
 -- `count_rows` meets its contract: after t turns the products and the literals of the terms below t are counted.
-use borrow.Author.Rules.{rules}
-use mathlib.Core.Logic.{⊎_elim}
 use mathlib.Core.Path.{◌≡◌, sym, ◌∙◌}
 use Prim.Native.Nat.{◌+◌, ◌-◌, ◌≤◌, ◌<◌, ◌^◌}
 use native.Mathlib.Omega.{arith}
@@ -9,7 +7,7 @@ use lib.Count.{ones, ones-le}
 use Rattle.numbers.proofs.Pack.{ones_in-ones}
 use Rattle.numbers.proofs.Shifts.{one_shifted, points-le}
 use Rattle.expansions.specs.Costs.{products, literals}
-use Rattle.shown_rows.proofs.shown.Counting.{Counting, count-start, count-product, count_none}
+use Rattle.shown_rows.proofs.shown.Counting.{count-start, count-product, count_none}
 use Rattle.shown_rows.proofs.shown.count_rows.Goals as goal
 use Rattle.shown_rows.proofs.shown.count_rows.Goals.{then-rows-t-ne0, else-rows-t-ne0}
 use Rattle.shown_rows.proofs.shown.count_rows.Goals.{In-loop-t}

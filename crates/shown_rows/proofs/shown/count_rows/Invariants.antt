@@ -1,14 +1,6 @@
-use borrow.Author.Rules.{rules}
-use mathlib.Core.Logic.{⊎_elim}
-use mathlib.Core.Path.{◌≡◌, sym, ◌∙◌}
-use Prim.Native.Nat.{◌+◌, ◌-◌, ◌≤◌, ◌<◌, ◌^◌}
-use native.Mathlib.Omega.{arith}
-use lib.Bits.{and_mask}
-use lib.Count.{ones, ones-le}
-use Rattle.numbers.proofs.Pack.{ones_in-ones}
-use Rattle.numbers.proofs.Shifts.{one_shifted, points-le}
+use Prim.Native.Nat.{◌-◌, ◌≤◌, ◌^◌}
 use Rattle.expansions.specs.Costs.{products, literals}
-use Rattle.shown_rows.proofs.shown.Counting.{Counting, count-start, count-product, count_none}
+use Rattle.shown_rows.proofs.shown.Counting.{Counting}
 use Rattle.shown_rows.proofs.shown.count_rows.Given as goal
 
 abbrev pub invariant-loop-t : goal.invariant-loop-t

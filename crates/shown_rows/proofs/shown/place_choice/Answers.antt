@@ -1,5 +1,4 @@
 -- `place_choice` meets its contract.
-use borrow.Author.Rules.{rules}
 use mathlib.Core.Path.{sym, ◌∙◌}
 use Rattle.shown_rows.proofs.shown.place_choice.Goals as goal
 

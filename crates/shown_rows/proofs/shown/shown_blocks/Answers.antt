@@ -1,5 +1,4 @@
 -- `shown_blocks` meets its contract: after t turns the blocks hold what the cubes of the terms below t show.
-use borrow.Author.Rules.{rules}
 use borrow.Author.Tests.{lt-ltb, le-ltb, eq-eqb, ne_eqb}
 use mathlib.Core.Path.{◌≡◌, sym, ap, ap₂, ◌∙◌}
 use Prim.Native.Nat.{◌-◌, ◌≤◌, ◌<◌, ◌^◌}
@@ -14,7 +13,7 @@ use Rattle.expansions.specs.Members.{place}
 use Rattle.expansions.proofs.Blocks.{place-lt}
 use Rattle.points.proofs.Bounds.{gather-small}
 use Rattle.shown_rows.specs.Rows.{shown_blocks}
-use Rattle.shown_rows.proofs.shown.Blocks.{BlocksBelow, blocks-none, blocks_more, blocks-all, choice-le}
+use Rattle.shown_rows.proofs.shown.Blocks.{blocks-none, blocks_more, blocks-all, choice-le}
 use Rattle.shown_rows.proofs.shown.shown_blocks.Goals as goal
 use Rattle.shown_rows.proofs.shown.shown_blocks.Goals.{After-gather-shown, After-split-parts, Else-ones_in-k, Else-size-mixed, In-loop-t}
 

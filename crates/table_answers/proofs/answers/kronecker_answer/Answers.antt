@@ -1,5 +1,4 @@
 -- `kronecker_answer` meets its contract: the search hands up the answer of the table.
-use borrow.Author.Rules.{rules}
 use mathlib.Core.Path.{sym, ◌∙◌}
 use lib.Seq.{length-take-le}
 use Rattle.table_texts.specs.Design.{kronecker_design}

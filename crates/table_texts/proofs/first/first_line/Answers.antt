@@ -1,6 +1,5 @@
 -- `first_line` meets its contract, by those of its parts.
 use mathlib.Core.Path.{◌∙◌}
-use borrow.Author.Rules.{rules}
 use Rattle.listings.specs.Parts.{bytes}
 use Rattle.table_texts.specs.First.{table_word, first_line}
 use Rattle.table_texts.proofs.first.first_line.Goals as goal

@@ -1,5 +1,4 @@
 -- `kind_of` meets its contract, by those of `same`, `dash_kind` and `mixed_of`.
-use borrow.Author.Rules.{rules}
 use Rattle.listings.specs.Parts.{bytes}
 use Rattle.table_texts.specs.First.{kind_of}
 use Rattle.table_texts.proofs.first.kind_of.Goals as goal

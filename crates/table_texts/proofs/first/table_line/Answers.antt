@@ -1,5 +1,4 @@
 -- `table_line` meets its contract: what stands before k, or a kind, that is not read makes the line wrong.
-use borrow.Author.Rules.{rules}
 use Rattle.table_texts.proofs.first.table_line.Goals as goal
 
 pub returns-in_default-kind_of : goal.returns-in_default-kind_of

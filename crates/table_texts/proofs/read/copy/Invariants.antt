@@ -1,10 +1,6 @@
-use mathlib.Core.Path.{◌≡◌, refl, sym, ◌∙◌}
+use mathlib.Core.Path.{◌≡◌}
 use Prim.Native.Nat.{◌≤◌, ◌-◌}
-use native.Mathlib.Numerals.{add-one}
-use native.Mathlib.Omega.{arith}
-use borrow.Author.Rules.{rules}
-use lib.ListN.{length, take, length-set}
-use lib.Seq.{take_all, take-suc, take-suc-set}
+use lib.ListN.{length, take}
 use Rattle.table_texts.proofs.read.copy.Given as goal
 
 abbrev pub invariant-loop-i : goal.invariant-loop-i

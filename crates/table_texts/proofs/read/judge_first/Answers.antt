@@ -1,5 +1,4 @@
 -- `judge_first` meets its contract. The returns follow the order of refusals in line 1.
-use borrow.Author.Rules.{rules}
 use Rattle.table_texts.specs.Inner.Reading.{judged_first}
 use Rattle.table_texts.proofs.read.Judged.{design-refused, design-passed}
 use Rattle.table_texts.proofs.read.judge_first.Goals as goal

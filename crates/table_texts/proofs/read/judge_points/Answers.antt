@@ -1,6 +1,5 @@
 -- `judge_points` meets its contract: what the lines mean, with the design.
 use mathlib.Core.Path.{ap}
-use borrow.Author.Rules.{rules}
 use Rattle.lines.specs.Rows as later
 use Rattle.table_texts.specs.Inner.Reading.{with_design, stands_for}
 use Rattle.table_texts.proofs.read.judge_points.Goals as goal

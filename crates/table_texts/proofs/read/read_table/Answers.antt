@@ -1,7 +1,6 @@
 -- `read_table` meets its contract. An accepted text gives 256 rows, which are copied; a refusal leaves the lent table as it was.
 use mathlib.Core.Path.{◌≡◌, sym}
 use native.Mathlib.Nat.{lt_of_lt_of_le}
-use borrow.Author.Rules.{rules}
 use borrow.Author.Tests.{eq-eqb, ne_eqb}
 use lib.ListN.{length}
 use Rattle.numbers.proofs.Shifts.{points-le}

@@ -1,6 +1,5 @@
 -- `judge_design` meets its contract: the refusal of each kind, with each family.
 use mathlib.Core.Path.{◌∙◌}
-use borrow.Author.Rules.{rules}
 use Rattle.table_texts.specs.Design.{design_refusal}
 use Rattle.table_texts.proofs.sizes.judge_design.Goals as goal
 

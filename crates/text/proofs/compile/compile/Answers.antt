@@ -1,5 +1,4 @@
 -- `compile` meets its contract: the text is refused, or its table is compiled.
-use borrow.Author.Rules.{rules}
 use mathlib.Core.Path.{◌≡◌, refl}
 use Rattle.table_texts.specs.Inner.Reading.{reading, stands_for}
 use Rattle.table_texts.proofs.read.Accepted.{reading-accepted, read_whole, reads-given}

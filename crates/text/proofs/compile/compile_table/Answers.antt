@@ -1,5 +1,4 @@
 -- `compile_table` meets its contract: the listing was written, or the buffer is shorter.
-use borrow.Author.Rules.{rules}
 use mathlib.Core.Path.{sym, ap, ◌∙◌}
 use Rattle.text.proofs.compile.Tables.{said, compiled-answer, compiled-bytes}
 use Rattle.text.proofs.compile.compile_table.Goals as goal

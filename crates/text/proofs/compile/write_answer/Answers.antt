@@ -1,5 +1,4 @@
 -- `write_answer` meets its contract, by the kind of k.
-use borrow.Author.Rules.{rules}
 use mathlib.Core.Path.{sym, ap, subst}
 use Rattle.table_texts.specs.declared.sizes.Design.{Design}
 use Rattle.table_texts.specs.Accepted.{Accepted}

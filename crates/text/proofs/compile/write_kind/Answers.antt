@@ -1,5 +1,4 @@
 -- `write_kind` meets its contract: the answer of the table is found and written.
-use borrow.Author.Rules.{rules}
 use mathlib.Core.Path.{sym, ap, subst}
 use Rattle.kronecker.specs.declared.expansion.KroneckerExpansion.{KroneckerExpansion}
 use Rattle.table_texts.specs.Design.{kronecker_design}

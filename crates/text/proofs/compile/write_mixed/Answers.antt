@@ -1,5 +1,4 @@
 -- `write_mixed` meets its contract: the answer of the table is found and written.
-use borrow.Author.Rules.{rules}
 use mathlib.Core.Path.{refl, sym, ap, subst}
 use Rattle.search.specs.declared.expansion.Expansion.{Expansion}
 use Rattle.table_texts.specs.Design.{mixed_design}

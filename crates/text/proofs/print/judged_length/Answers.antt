@@ -1,5 +1,4 @@
 -- `judged_length` meets its contract: an input of fewer bytes is judged whole.
-use borrow.Author.Rules.{rules}
 use mathlib.Core.Path.{sym, ◌∙◌}
 use native.Mathlib.Omega.{arith}
 use lib.Seq.{take_all, take-length}

@@ -1,5 +1,4 @@
 -- `print_answer` meets its contract: the listing stands in the bytes, or the line `refused` is written there.
-use borrow.Author.Rules.{rules}
 use mathlib.Core.Path.{sym}
 use lib.Seq.{length-take-le}
 use Rattle.text.specs.Judged.{refused_line}

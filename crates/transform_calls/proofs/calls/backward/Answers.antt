@@ -1,5 +1,4 @@
 -- `backward` meets its contract.
-use borrow.Author.Rules.{rules}
 use mathlib.Core.Path.{sym, ◌∙◌}
 use Rattle.transform_calls.proofs.calls.Meaning.{backward-done, backward-refused}
 use Rattle.transform_calls.proofs.calls.backward.Goals as goal

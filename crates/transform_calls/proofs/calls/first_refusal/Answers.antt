@@ -1,6 +1,5 @@
 -- `first_refusal` meets its contract: each return is one test of `refusal`, those before it passed.
 -- where the call was entered, from past the test on n and m
-use borrow.Author.Rules.{rules}
 use mathlib.Core.Path.{◌≡◌, sym, ◌∙◌}
 use mathlib.Core.Bool.{true}
 use Prim.Native.Nat.{ℕ, ◌*◌, ◌^◌, ◌%◌, ◌≤◌, ◌<◌}

@@ -1,5 +1,4 @@
 -- `forward` meets its contract.
-use borrow.Author.Rules.{rules}
 use mathlib.Core.Path.{sym, ◌∙◌}
 use Rattle.transform_calls.proofs.calls.Meaning.{forward-done, forward-refused}
 use Rattle.transform_calls.proofs.calls.forward.Goals as goal

@@ -1,5 +1,4 @@
 -- `literal_byte` meets its contract: the bit is 0 or 1.
-use borrow.Author.Rules.{rules}
 use mathlib.Core.Path.{◌≡◌, sym, ◌∙◌}
 use Prim.Native.Nat.{◌%◌}
 use native.Mathlib.Omega.{arith}

@@ -1,12 +1,10 @@
 -- `write_letters` meets its contract: after k turns the first k characters are written.
-use borrow.Author.Rules.{rules}
 use mathlib.Core.Path.{sym, ◌∙◌}
 use Prim.Native.Nat.{◌-◌, ◌<◌}
 use native.Mathlib.Omega.{arith}
 use Rattle.numbers.specs.Bytes as bytes
-use Rattle.listings.specs.Kronecker.{letter_bytes}
 use Rattle.listings.proofs.Kronecker.{length-letters, at-letters}
-use Rattle.writing.proofs.Puts.{Written, written_none, written-more, written_all}
+use Rattle.writing.proofs.Puts.{written_none, written-more, written_all}
 use Rattle.writing.proofs.letters.write_letters.Goals as goal
 
 pub loop-k-init : goal.loop-k-init

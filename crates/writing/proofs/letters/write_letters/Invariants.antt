@@ -1,11 +1,7 @@
-use borrow.Author.Rules.{rules}
-use mathlib.Core.Path.{sym, ◌∙◌}
-use Prim.Native.Nat.{◌-◌, ◌<◌}
-use native.Mathlib.Omega.{arith}
+use Prim.Native.Nat.{◌-◌}
 use Rattle.numbers.specs.Bytes as bytes
 use Rattle.listings.specs.Kronecker.{letter_bytes}
-use Rattle.listings.proofs.Kronecker.{length-letters, at-letters}
-use Rattle.writing.proofs.Puts.{Written, written_none, written-more, written_all}
+use Rattle.writing.proofs.Puts.{Written}
 use Rattle.writing.proofs.letters.write_letters.Given as goal
 
 abbrev pub invariant-loop-k : goal.invariant-loop-k

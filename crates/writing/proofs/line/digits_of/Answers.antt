@@ -1,8 +1,7 @@
 -- `digits_of` meets its contract: after j turns the digits of the first j numbers are counted.
-use borrow.Author.Rules.{rules}
-use mathlib.Core.Path.{◌≡◌, refl, ◌∙◌, sym}
-use Prim.Native.Nat.{◌-◌, ◌≤◌, ◌*◌}
-use lib.ListN.{length, get_or, take}
+use mathlib.Core.Path.{refl, ◌∙◌, sym}
+use Prim.Native.Nat.{◌-◌}
+use lib.ListN.{get_or}
 use lib.Seq.{take_all}
 use Rattle.listings.specs.Inner.Lengths.{digits_of}
 use Rattle.listings.proofs.Lengths.{digits_of-next}

@@ -1,12 +1,7 @@
-use borrow.Author.Rules.{rules}
-use mathlib.Core.Path.{◌≡◌, refl, ◌∙◌, sym}
+use mathlib.Core.Path.{◌≡◌}
 use Prim.Native.Nat.{◌-◌, ◌≤◌, ◌*◌}
-use lib.ListN.{length, get_or, take}
-use lib.Seq.{take_all}
+use lib.ListN.{length, take}
 use Rattle.listings.specs.Inner.Lengths.{digits_of}
-use Rattle.listings.proofs.Lengths.{digits_of-next}
-use Rattle.listings.proofs.Characters.{digit_count-in}
-use native.Mathlib.Omega.{arith}
 use Rattle.writing.proofs.line.digits_of.Given as goal
 
 abbrev pub invariant-loop-j : goal.invariant-loop-j

@@ -1,5 +1,4 @@
 -- `write_line` meets its contract: the word, the numbers and the line's end, one after the other.
-use borrow.Author.Rules.{rules}
 use Rattle.listings.specs.Listing.{line}
 use Rattle.writing.proofs.Puts.{put_then, put-length}
 use Rattle.listings.proofs.Lengths.{length-numbers}

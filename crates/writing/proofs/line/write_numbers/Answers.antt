@@ -1,12 +1,9 @@
 -- `write_numbers` meets its contract: after j turns the first j numbers are written.
-use borrow.Author.Rules.{rules}
-use mathlib.Core.List.{map}
 use mathlib.Core.Path.{◌≡◌}
-use Prim.Native.Nat.{◌-◌, ◌≤◌}
-use lib.ListN.{length, take}
+use Prim.Native.Nat.{◌-◌}
+use lib.ListN.{take}
 use lib.Seq.{take_all}
-use Rattle.listings.specs.Listing.{tabbed, decimal}
-use Rattle.writing.specs.Put.{Put}
+use Rattle.listings.specs.Listing.{tabbed}
 use Rattle.writing.proofs.Puts.{put-none, put_then, put-length}
 use Rattle.listings.proofs.Lengths.{numbers-next, numbers-room}
 use native.Mathlib.Omega.{arith}

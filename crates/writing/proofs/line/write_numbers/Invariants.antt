@@ -1,14 +1,8 @@
-use borrow.Author.Rules.{rules}
 use mathlib.Core.List.{map}
-use mathlib.Core.Path.{◌≡◌}
 use Prim.Native.Nat.{◌-◌, ◌≤◌}
 use lib.ListN.{length, take}
-use lib.Seq.{take_all}
 use Rattle.listings.specs.Listing.{tabbed, decimal}
 use Rattle.writing.specs.Put.{Put}
-use Rattle.writing.proofs.Puts.{put-none, put_then, put-length}
-use Rattle.listings.proofs.Lengths.{numbers-next, numbers-room}
-use native.Mathlib.Omega.{arith}
 use Rattle.writing.proofs.line.write_numbers.Given as goal
 
 abbrev pub invariant-loop-j : goal.invariant-loop-j

@@ -1,5 +1,4 @@
 -- `cube_byte` meets its contract: each return is one case of `cube_byte`.
-use borrow.Author.Rules.{rules}
 use mathlib.Core.Path.{sym, ◌∙◌}
 use Prim.Native.Nat.{◌/◌, ◌^◌}
 use lib.Bits.{and_mask}

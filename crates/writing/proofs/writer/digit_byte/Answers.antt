@@ -1,5 +1,4 @@
 -- `digit_byte` meets its contract: the units are the powers of ten.
-use borrow.Author.Rules.{rules}
 use native.Mathlib.Nat.{one-le-pow}
 use lib.Dec.{lit<}
 use Rattle.listings.proofs.Characters.{unit-power}

@@ -1,10 +1,7 @@
 -- `seek` meets its contract. The invariant: the part that begins at the cursor stops where the part that begins at `at` stops.
-use mathlib.Core.Path.{◌≡◌, refl}
+use mathlib.Core.Path.{refl}
 use Prim.Native.Nat.{◌-◌}
 use native.Mathlib.Omega.{arith}
-use borrow.Author.Rules.{rules}
-use lib.ListN.{length}
-use Rattle.listings.specs.Inner.Stops.{stop}
 use Rattle.listings.proofs.Parts.{length-here, length-on, length-end}
 use Rattle.fields.proofs.cursor.Cursor.seek.Goals as goal
 

@@ -1,10 +1,7 @@
-use mathlib.Core.Path.{◌≡◌, refl}
+use mathlib.Core.Path.{◌≡◌}
 use Prim.Native.Nat.{◌-◌}
-use native.Mathlib.Omega.{arith}
-use borrow.Author.Rules.{rules}
 use lib.ListN.{length}
 use Rattle.listings.specs.Inner.Stops.{stop}
-use Rattle.listings.proofs.Parts.{length-here, length-on, length-end}
 use Rattle.fields.proofs.cursor.Cursor.seek.Given as goal
 
 abbrev pub invariant-loop-at : goal.invariant-loop-at

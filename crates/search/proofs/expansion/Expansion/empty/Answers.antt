@@ -1,5 +1,4 @@
 -- The record is put together from zeros and the mask.
-use borrow.Author.Rules.{rules}
 use Rattle.search.specs.Expansion.{empty_expansion}
 use Rattle.search.proofs.expansion.Expansion.empty.Goals as goal
 

@@ -1,9 +1,7 @@
 -- `cube` meets its contract: after k turns the first k characters are written.
-use borrow.Author.Rules.{rules}
 use mathlib.Core.Path.{sym, ◌∙◌}
 use Prim.Native.Nat.{◌-◌, ◌<◌}
-use Rattle.listings.specs.Listing.{cube}
-use Rattle.writing.proofs.Puts.{Written, written_none, written-more, written_all}
+use Rattle.writing.proofs.Puts.{written_none, written-more, written_all}
 use Rattle.listings.proofs.Characters.{length-cube, at-cube}
 use native.Mathlib.Omega.{arith}
 use Rattle.writing.proofs.writer.Writer.cube.Goals as goal

@@ -1,10 +1,6 @@
-use borrow.Author.Rules.{rules}
-use mathlib.Core.Path.{sym, ◌∙◌}
-use Prim.Native.Nat.{◌-◌, ◌<◌}
+use Prim.Native.Nat.{◌-◌}
 use Rattle.listings.specs.Listing.{cube}
-use Rattle.writing.proofs.Puts.{Written, written_none, written-more, written_all}
-use Rattle.listings.proofs.Characters.{length-cube, at-cube}
-use native.Mathlib.Omega.{arith}
+use Rattle.writing.proofs.Puts.{Written}
 use Rattle.writing.proofs.writer.Writer.cube.Given as goal
 
 abbrev pub invariant-loop-k : goal.invariant-loop-k

@@ -1,9 +1,8 @@
 -- `number` meets its contract: after k turns the first k digits are written.
-use borrow.Author.Rules.{rules}
 use mathlib.Core.Path.{sym, ◌∙◌}
 use Prim.Native.Nat.{◌-◌, ◌<◌}
-use Rattle.listings.specs.Listing.{decimal, digit_count}
-use Rattle.writing.proofs.Puts.{Written, written_none, written-more, written_all}
+use Rattle.listings.specs.Listing.{digit_count}
+use Rattle.writing.proofs.Puts.{written_none, written-more, written_all}
 use Rattle.listings.proofs.Characters.{length-decimal, at-decimal, digit_count-in}
 use native.Mathlib.Omega.{arith}
 use Rattle.writing.proofs.writer.Writer.number.Goals as goal

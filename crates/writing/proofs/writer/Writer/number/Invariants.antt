@@ -1,10 +1,6 @@
-use borrow.Author.Rules.{rules}
-use mathlib.Core.Path.{sym, ◌∙◌}
-use Prim.Native.Nat.{◌-◌, ◌<◌}
-use Rattle.listings.specs.Listing.{decimal, digit_count}
-use Rattle.writing.proofs.Puts.{Written, written_none, written-more, written_all}
-use Rattle.listings.proofs.Characters.{length-decimal, at-decimal, digit_count-in}
-use native.Mathlib.Omega.{arith}
+use Prim.Native.Nat.{◌-◌}
+use Rattle.listings.specs.Listing.{decimal}
+use Rattle.writing.proofs.Puts.{Written}
 use Rattle.writing.proofs.writer.Writer.number.Given as goal
 
 abbrev pub invariant-loop-k : goal.invariant-loop-k

@@ -1,10 +1,8 @@
 -- `outputs` meets its contract: after k turns the first k characters are written.
-use borrow.Author.Rules.{rules}
 use mathlib.Core.Path.{sym, ap, ◌∙◌}
 use Prim.Native.Nat.{ℕ, ◌+◌, ◌-◌, ◌/◌, ◌^◌, ◌<◌}
 use lib.Bits.{and_mask}
-use Rattle.listings.specs.Listing.{output_bytes}
-use Rattle.writing.proofs.Puts.{Written, written_none, written-more, written_all}
+use Rattle.writing.proofs.Puts.{written_none, written-more, written_all}
 use Rattle.listings.proofs.Characters.{length-outputs, at-outputs}
 use native.Mathlib.Omega.{arith}
 use Rattle.writing.proofs.writer.Writer.outputs.Goals as goal

@@ -1,9 +1,7 @@
 -- `word` meets its contract: after k turns the first k bytes are written.
-use borrow.Author.Rules.{rules}
 use mathlib.Core.Path.{refl}
 use Prim.Native.Nat.{◌-◌}
-use lib.ListN.{length}
-use Rattle.writing.proofs.Puts.{Written, written_none, written-more, written_all}
+use Rattle.writing.proofs.Puts.{written_none, written-more, written_all}
 use Rattle.writing.proofs.writer.Writer.word.Goals as goal
 
 pub loop-k-init : goal.loop-k-init

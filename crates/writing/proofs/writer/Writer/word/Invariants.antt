@@ -1,8 +1,6 @@
-use borrow.Author.Rules.{rules}
-use mathlib.Core.Path.{refl}
 use Prim.Native.Nat.{◌-◌}
 use lib.ListN.{length}
-use Rattle.writing.proofs.Puts.{Written, written_none, written-more, written_all}
+use Rattle.writing.proofs.Puts.{Written}
 use Rattle.writing.proofs.writer.Writer.word.Given as goal
 
 abbrev pub invariant-loop-k : goal.invariant-loop-k
