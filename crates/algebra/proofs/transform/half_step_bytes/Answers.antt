@@ -1,5 +1,4 @@
 -- `half_step_bytes` meets its contract: the half step has been done below base.
-use Prim.Native.Nat.{◌-◌}
 use native.Mathlib.Omega.{arith}
 use lib.Pow.{pow_pos}
 use Rattle.algebra.proofs.transform.Halves.{bytes-none, halved-room, halved-more, halved-all}

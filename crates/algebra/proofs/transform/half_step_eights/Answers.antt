@@ -1,6 +1,6 @@
 -- `half_step_eights` meets its contract: the half step has been done below base * 8.
 use mathlib.Core.Path.{refl}
-use Prim.Native.Nat.{◌+◌, ◌-◌}
+use Prim.Native.Nat.{◌+◌}
 use native.Mathlib.Omega.{arith}
 use lib.Pow.{pow_pos}
 use Rattle.algebra.proofs.transform.Halves.{eights-none, eights-room, eights-apart, eights-more, eights-all}

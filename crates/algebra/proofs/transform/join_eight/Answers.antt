@@ -1,6 +1,5 @@
 -- `join_eight` meets its contract: after q turns the first q bytes of the run are joined.
 use mathlib.Core.Path.{◌≡◌}
-use Prim.Native.Nat.{◌-◌}
 use native.Mathlib.Omega.{arith}
 use Rattle.algebra.proofs.transform.Runs.{run_none, run-byte}
 use Rattle.algebra.proofs.transform.join_eight.Goals as goal

@@ -1,6 +1,5 @@
 -- `join_eights` meets its contract: after q turns the first q runs of eight bytes are joined.
 use mathlib.Core.Path.{◌≡◌}
-use Prim.Native.Nat.{◌-◌}
 use native.Mathlib.Omega.{arith}
 use Rattle.algebra.proofs.transform.Runs.{run_none, run-eight, apart-eight}
 use Rattle.algebra.proofs.transform.join_eights.Goals as goal

@@ -1,7 +1,5 @@
 -- `join_inside` meets its contract: after s turns the steps for the inputs below s have been done.
-use Prim.Native.Nat.{◌-◌}
 use native.Mathlib.Omega.{arith}
-use Rattle.algebra.specs.Inner.Steps.{half_step}
 use Rattle.algebra.proofs.HalfSteps.{half-below}
 use Rattle.algebra.proofs.transform.Inputs.{stepped-none, stepped-long, stepped-ready, stepped-more, stepped-all}
 use Rattle.algebra.proofs.transform.join_inside.Goals as goal

@@ -1,6 +1,5 @@
 -- `move_points` meets its contract: after q turns the first q places are filled.
 use mathlib.Core.Path.{refl}
-use Prim.Native.Nat.{◌-◌}
 use Rattle.numbers.proofs.Bytes.{filled_none, filled_more, filled-all}
 use native.Mathlib.Omega.{arith}
 use Rattle.algebra.proofs.transform.move_points.Goals as goal

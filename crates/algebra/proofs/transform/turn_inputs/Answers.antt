@@ -1,5 +1,5 @@
 -- `turn_inputs` meets its contract: after s turns the inputs below s that are bits of `changed` have been turned over.
-use Prim.Native.Nat.{◌+◌, ◌-◌}
+use Prim.Native.Nat.{◌+◌}
 use native.Mathlib.Omega.{arith}
 use Rattle.algebra.proofs.HalfSteps.{where_below}
 use Rattle.algebra.proofs.transform.Inputs.{stepped-none, stepped-long, stepped-ready, stepped-more, stepped-all, turned-digit}

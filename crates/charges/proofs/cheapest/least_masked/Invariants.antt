@@ -1,4 +1,4 @@
-use Prim.Native.Nat.{◌+◌, ◌-◌, ◌*◌}
+use Prim.Native.Nat.{◌+◌, ◌*◌}
 use Rattle.numbers.specs.Words.{byte}
 use Rattle.charges.proofs.cheapest.Choices.{SumsTried, Shifted}
 use Rattle.charges.proofs.cheapest.least_masked.Given as goal

@@ -1,5 +1,4 @@
 -- After t turns the word holds the small sums of the terms below t.
-use Prim.Native.Nat.{◌-◌}
 use native.Mathlib.Omega.{arith}
 use Rattle.expansions.specs.Inner.Charges.{literal_counts, literal_count}
 use Rattle.charges.proofs.cheapest.Sums.{summed-none, summed-fits, summed-more, summed-all}

@@ -1,6 +1,6 @@
 -- `part_count` meets its contract. The invariant: the parts of the text are those counted and those after the one at the cursor.
 use mathlib.Core.Path.{◌≡◌, ap}
-use Prim.Native.Nat.{◌+◌, ◌-◌}
+use Prim.Native.Nat.{◌+◌}
 use native.Mathlib.Omega.{arith}
 use lib.ListN.{length}
 use Rattle.listings.specs.Inner.Stops.{stop}

@@ -4,7 +4,7 @@ use Prim.Native.Nat.{◌-◌}
 use native.Mathlib.Omega.{arith}
 use borrow.Author.Tests.{ne_eqb}
 use lib.Seq.{drop-length}
-use Rattle.fields.specs.Fields.{digit, bits, mask}
+use Rattle.fields.specs.Fields.{bits, mask}
 use Rattle.fields.proofs.Numbers.{digit_lt, bits-step, bits-byte, mask-wrong, mask-bits}
 use Rattle.fields.proofs.values.mask.Goals as goal
 

@@ -1,7 +1,7 @@
 -- `read_cube` meets its contract. The invariant: the characters passed show `term` and `complemented`, and the field says what the characters left
 -- say after them.
 use mathlib.Core.Path.{◌≡◌, sym, ◌∙◌}
-use Prim.Native.Nat.{suc, ◌<◌, ◌-◌}
+use Prim.Native.Nat.{suc, ◌-◌}
 use native.Mathlib.Omega.{arith}
 use borrow.Author.Tests.{ne_eqb}
 use lib.Dec.{lit<}

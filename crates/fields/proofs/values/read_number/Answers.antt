@@ -1,7 +1,7 @@
 -- `read_number` meets its contract. The invariant: the digits passed say `value`, below 10 ^ k, and the field says what the digits left say after it.
 use mathlib.Core.Bool.{true}
 use mathlib.Core.Path.{◌≡◌, sym, ◌∙◌}
-use Prim.Native.Nat.{zero-le, ◌<◌, ◌-◌}
+use Prim.Native.Nat.{zero-le}
 use native.Mathlib.Omega.{arith}
 use borrow.Author.Tests.{not-true, not-false}
 use lib.Dec.{lit<}

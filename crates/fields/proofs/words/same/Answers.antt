@@ -1,6 +1,5 @@
 -- `same` meets its contract. The invariant: the field is the word just where what is left of the one is what is left of the other.
 use mathlib.Core.Path.{refl, sym, ◌∙◌}
-use Prim.Native.Nat.{◌-◌}
 use native.Mathlib.Omega.{arith}
 use borrow.Author.Tests.{eq-eqb, ne_eqb}
 use Rattle.listings.proofs.Words.{same-lengths, same_step, same_end}

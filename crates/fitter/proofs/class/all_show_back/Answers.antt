@@ -1,11 +1,9 @@
 -- `all_show_back` meets its contract: after t turns every term below t passed.
 use borrow.Author.Tests.{not-true, not-false}
-use mathlib.Core.Bool.{true}
 use mathlib.Core.Path.{◌≡◌, refl, sym, ◌∙◌}
-use Prim.Native.Nat.{◌-◌, ◌<◌, ◌^◌}
+use Prim.Native.Nat.{◌<◌, ◌^◌}
 use native.Mathlib.Numerals.{add-one}
 use native.Mathlib.Omega.{arith}
-use Rattle.numbers.specs.Bytes.{at}
 use Rattle.numbers.specs.Tests.{every}
 use Rattle.numbers.proofs.Shifts.{one_shifted, points-le}
 use Rattle.numbers.proofs.Tests.{every-fails}

@@ -1,7 +1,6 @@
 -- `coefficients` meets its contract: after i turns the steps for the inputs below i are done.
 use borrow.Author.Rules.{rules}
 use mathlib.Core.Path.{ap, ◌∙◌}
-use Prim.Native.Nat.{◌-◌}
 use native.Mathlib.Omega.{arith}
 use lib.ListN.{length}
 use Rattle.numbers.proofs.Bytes.{length-tabulate}

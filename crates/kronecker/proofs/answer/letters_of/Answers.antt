@@ -1,5 +1,4 @@
 -- `letters_of` meets its contract: after i turns the letters of the inputs below i are written.
-use Prim.Native.Nat.{◌-◌}
 use Rattle.expansions.proofs.Kronecker.Coefficients.{letters-none, letters-more, letters-all}
 use Rattle.kronecker.proofs.answer.letters_of.Goals as goal
 

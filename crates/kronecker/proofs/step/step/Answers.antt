@@ -1,5 +1,5 @@
 -- `step` meets its contract: every place below `base` has had the step.
-use Prim.Native.Nat.{ℕ, ◌-◌}
+use Prim.Native.Nat.{ℕ}
 use native.Mathlib.Omega.{arith}
 use lib.ListN.{length-replicate}
 use lib.Pow.{pow_pos}

@@ -1,9 +1,7 @@
 -- `step_run` meets its contract: after q turns the step is done on the first q pairs.
 use mathlib.Core.Path.{◌≡◌}
-use Prim.Native.Nat.{◌-◌}
 use native.Mathlib.Omega.{arith}
 use lib.ListN.{length-set}
-use Rattle.numbers.specs.Bytes.{at}
 use Rattle.expansions.proofs.Kronecker.Runs.{run_none, run_more}
 use Rattle.kronecker.proofs.step.step_run.Goals as goal
 

@@ -1,6 +1,6 @@
 -- The walk meets its contract: the inputs left fall at each call, and the three places that follow a place have its kinds between them.
 use mathlib.Core.Path.{◌≡◌}
-use Prim.Native.Nat.{suc, ◌+◌, ◌-◌, ◌<◌}
+use Prim.Native.Nat.{suc, ◌+◌, ◌<◌}
 use native.Mathlib.Omega.{arith}
 use Rattle.expansions.proofs.Kronecker.Walking.{place-light, step_fits, place-shannon, place-positive, place-negative, walked-three}
 use Rattle.kronecker.proofs.walk.+walk.Goals as goal

@@ -1,5 +1,4 @@
 -- `half_charges` meets its contract: after s turns the first s places of each half are weighed.
-use Prim.Native.Nat.{◌-◌}
 use native.Mathlib.Omega.{arith}
 use Rattle.expansions.proofs.Kronecker.Weighing.{halves-none, halves-more, halves-all, halves-fit}
 use Rattle.kronecker.proofs.weigh.half_charges.Goals as goal

@@ -1,5 +1,5 @@
 -- `weigh` meets its contract: after s turns the first s weights of each half are there.
-use Prim.Native.Nat.{ℕ, ◌-◌}
+use Prim.Native.Nat.{ℕ}
 use native.Mathlib.Omega.{arith}
 use lib.ListN.{length-replicate}
 use Rattle.expansions.proofs.Kronecker.Weighing.{weighed-none, weighed-fit, weighed-more, weighed-all}

@@ -1,5 +1,4 @@
 -- `fill_lanes` meets its contract: the bytes of the blocks below q are filled.
-use Prim.Native.Nat.{◌-◌}
 use native.Mathlib.Omega.{arith}
 use Rattle.numbers.proofs.Bytes.{filled_none, filled-all}
 use Rattle.lanes.proofs.expand.Laying.{laid_more}

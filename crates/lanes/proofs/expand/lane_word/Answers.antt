@@ -1,6 +1,6 @@
 -- `lane_word` meets its contract: each byte of the word has the bits of the places below p.
 use mathlib.Core.Path.{◌≡◌, ◌∙◌, ap}
-use Prim.Native.Nat.{ℕ, ◌+◌, ◌-◌}
+use Prim.Native.Nat.{ℕ, ◌+◌}
 use native.Mathlib.Omega.{arith}
 use Rattle.numbers.specs.Bytes.{at}
 use Rattle.numbers.specs.Bits.{bit, pack}

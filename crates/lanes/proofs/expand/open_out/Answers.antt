@@ -1,7 +1,6 @@
 -- `open_out` meets its contract: the points below y are filled, and `point` is the next.
 use borrow.Author.Rules.{rules}
 use mathlib.Core.Path.{sym}
-use Prim.Native.Nat.{◌-◌}
 use native.Mathlib.Numerals.{add-one}
 use Rattle.numbers.proofs.Bytes.{filled_none, filled_more, filled-all}
 use Rattle.numbers.proofs.Shifts.{mask-byte}

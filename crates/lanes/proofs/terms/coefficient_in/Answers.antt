@@ -1,6 +1,6 @@
 -- `byte` holds the bits of the outputs below o.
 use mathlib.Core.Path.{◌≡◌, ap, ◌∙◌}
-use Prim.Native.Nat.{ℕ, ◌+◌, ◌-◌, ◌*◌, ◌<◌}
+use Prim.Native.Nat.{ℕ, ◌+◌, ◌*◌, ◌<◌}
 use native.Mathlib.Numerals.{add-one}
 use lib.Bits.{bit_and, and_mask}
 use Rattle.numbers.specs.Bytes.{at}

@@ -1,6 +1,4 @@
 -- The loop fills the array by `coefficient_at`, from the front.
-use Prim.Native.Nat.{◌-◌}
-use Rattle.lanes.specs.Inner.Terms.{coefficient_at}
 use Rattle.numbers.proofs.Bytes.{filled_none, filled_more, filled-all}
 use native.Mathlib.Omega.{arith}
 use Rattle.lanes.proofs.terms.coefficients.Goals as goal

@@ -1,7 +1,6 @@
 -- `judge_rows` meets its contract. The invariant: the cursor stands in the text, and the lines from it on mean what the lines from the
 -- start on mean. Each turn goes forward in the text.
 use mathlib.Core.Path.{refl, ◌∙◌}
-use Prim.Native.Nat.{◌-◌}
 use native.Mathlib.Omega.{arith}
 use Rattle.lines.specs.Rows.{stands_for}
 use Rattle.lines.proofs.judge.judge_rows.Goals as goal

@@ -1,6 +1,6 @@
 -- `write_terms` meets its contract: after t turns the lines of the products below t are written.
 use mathlib.Core.Path.{◌≡◌, ◌∙◌}
-use Prim.Native.Nat.{ℕ, ◌-◌, ◌<◌, ◌^◌}
+use Prim.Native.Nat.{ℕ, ◌<◌, ◌^◌}
 use native.Mathlib.Numerals.{add-one}
 use Rattle.numbers.specs.Bytes.{at}
 use Rattle.search.specs.Expansion.{term_polarity}

@@ -1,7 +1,6 @@
 -- `copy_places` meets its contract: the loop fills the buffer from the front.
 use mathlib.Core.Path.{refl}
 use native.Mathlib.Omega.{arith}
-use Prim.Native.Nat.{◌-◌}
 use lib.ListN.{length-set}
 use Rattle.numbers.proofs.Bytes.{filled_none, filled_more, filled-all}
 use Rattle.minimise_calls.proofs.calls.copy_places.Goals as goal

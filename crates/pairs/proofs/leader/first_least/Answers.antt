@@ -1,10 +1,9 @@
 -- `first_least` meets its contract: the leader leads the pairs whose M is below `mixed`.
 use mathlib.Core.Path.{◌≡◌}
-use Prim.Native.Nat.{◌-◌, ◌^◌}
+use Prim.Native.Nat.{◌^◌}
 use native.Mathlib.Nat.{zero-mul}
 use native.Mathlib.Numerals.{add-one}
 use native.Mathlib.Omega.{arith}
-use Rattle.numbers.specs.Bytes.{at}
 use Rattle.numbers.proofs.Shifts.{one_shifted}
 use Rattle.pairs.proofs.leader.Leading.{leads-none}
 use Rattle.pairs.proofs.leader.first_least.Goals as goal

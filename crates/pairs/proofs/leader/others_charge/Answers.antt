@@ -1,5 +1,4 @@
 -- The loop adds up what the blocks below j cost, each under its first least choice.
-use Prim.Native.Nat.{◌-◌}
 use native.Mathlib.Omega.{arith}
 use Rattle.numbers.specs.Bytes.{at}
 use Rattle.pairs.proofs.leader.Charging.{blocks-first, blocks-few, blocks-lt, blocks_more, blocks-all}

@@ -1,6 +1,5 @@
 -- `try_polarities` meets its contract: the leader leads the pairs of `mixed` whose polarity, closed up, is below w.
 use mathlib.Core.Path.{◌∙◌}
-use Prim.Native.Nat.{◌-◌}
 use native.Mathlib.Omega.{arith}
 use Rattle.numbers.proofs.Shifts.{one_shifted}
 use Rattle.lanes.proofs.expand.Room.{blocks-le, room-le}

@@ -1,7 +1,7 @@
 -- `ones_in` meets its contract: `used` is the number of inputs of the mask below b.
 use borrow.Author.Rules.{rules}
 use mathlib.Core.Path.{◌∙◌, ap}
-use Prim.Native.Nat.{ℕ, ◌-◌}
+use Prim.Native.Nat.{ℕ}
 use lib.Count.{ones_in}
 use Rattle.points.proofs.split.Walks.{passed_none, passed-more, passed-fits, passed-all}
 use Rattle.points.proofs.split.ones_in.Goals as goal

@@ -1,7 +1,7 @@
 -- `split` meets its contract: block and place have the bits of x at the inputs below b, outside the mixed set and in it.
 use borrow.Author.Rules.{rules}
 use mathlib.Core.Path.{◌≡◌, refl, ap, ◌∙◌}
-use Prim.Native.Nat.{ℕ, ◌-◌, ◌/◌, ◌^◌}
+use Prim.Native.Nat.{ℕ, ◌/◌, ◌^◌}
 use native.Mathlib.Omega.{arith}
 use lib.Bits.{and_le_r}
 use Rattle.expansions.specs.ClosedUp.{IsSplit}

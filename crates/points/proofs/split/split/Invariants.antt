@@ -1,6 +1,5 @@
 use mathlib.Core.Path.{◌≡◌}
 use Prim.Native.Nat.{◌-◌}
-use Rattle.expansions.specs.Members.{block, place}
 use Rattle.expansions.specs.Split.{gather, outside}
 use Rattle.points.proofs.split.Walks.{Passed}
 use Rattle.points.proofs.split.split.Given as goal

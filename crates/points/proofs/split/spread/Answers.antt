@@ -1,7 +1,7 @@
 -- `spread` meets its contract: x has the bits of y at the inputs of the mask below b.
 use borrow.Author.Rules.{rules}
 use mathlib.Core.Path.{◌≡◌, refl, ◌∙◌, ap}
-use Prim.Native.Nat.{ℕ, ◌-◌}
+use Prim.Native.Nat.{ℕ}
 use Rattle.expansions.specs.ClosedUp.{OpenedOut}
 use Rattle.expansions.specs.Split.{spread}
 use Rattle.expansions.proofs.ClosedUp.{spread-opened-out}

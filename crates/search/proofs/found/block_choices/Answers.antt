@@ -1,6 +1,4 @@
 -- The loop fills the array by `choice_at`, from the front.
-use Prim.Native.Nat.{◌-◌}
-use Rattle.search.specs.Inner.Search.{choice_at}
 use Rattle.numbers.proofs.Bytes.{filled_none, filled_more, filled-all}
 use native.Mathlib.Omega.{arith}
 use Rattle.search.proofs.found.block_choices.Goals as goal

@@ -1,5 +1,4 @@
 use Prim.Native.Nat.{◌-◌, ◌≤◌, ◌^◌}
-use Rattle.expansions.specs.Costs.{products, literals}
 use Rattle.shown_rows.proofs.shown.Counting.{Counting}
 use Rattle.shown_rows.proofs.shown.count_rows.Given as goal
 

@@ -1,6 +1,6 @@
 -- `write_cube` meets its contract: after k turns the first k characters are written.
 use mathlib.Core.Path.{sym, ◌∙◌}
-use Prim.Native.Nat.{◌-◌, ◌<◌}
+use Prim.Native.Nat.{◌<◌}
 use native.Mathlib.Omega.{arith}
 use Rattle.numbers.specs.Bytes as bytes
 use Rattle.listings.proofs.Kronecker.{length-kronecker_cube, at-kronecker_cube}

@@ -1,6 +1,5 @@
 -- `digits_of` meets its contract: after j turns the digits of the first j numbers are counted.
 use mathlib.Core.Path.{refl, ◌∙◌, sym}
-use Prim.Native.Nat.{◌-◌}
 use lib.ListN.{get_or}
 use lib.Seq.{take_all}
 use Rattle.listings.specs.Inner.Lengths.{digits_of}

@@ -1,6 +1,5 @@
 -- `write_numbers` meets its contract: after j turns the first j numbers are written.
 use mathlib.Core.Path.{◌≡◌}
-use Prim.Native.Nat.{◌-◌}
 use lib.ListN.{take}
 use lib.Seq.{take_all}
 use Rattle.listings.specs.Listing.{tabbed}

@@ -1,6 +1,5 @@
 -- `seek` meets its contract. The invariant: the part that begins at the cursor stops where the part that begins at `at` stops.
 use mathlib.Core.Path.{refl}
-use Prim.Native.Nat.{◌-◌}
 use native.Mathlib.Omega.{arith}
 use Rattle.listings.proofs.Parts.{length-here, length-on, length-end}
 use Rattle.fields.proofs.cursor.Cursor.seek.Goals as goal

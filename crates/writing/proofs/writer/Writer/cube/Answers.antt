@@ -1,6 +1,6 @@
 -- `cube` meets its contract: after k turns the first k characters are written.
 use mathlib.Core.Path.{sym, ◌∙◌}
-use Prim.Native.Nat.{◌-◌, ◌<◌}
+use Prim.Native.Nat.{◌<◌}
 use Rattle.writing.proofs.Puts.{written_none, written-more, written_all}
 use Rattle.listings.proofs.Characters.{length-cube, at-cube}
 use native.Mathlib.Omega.{arith}

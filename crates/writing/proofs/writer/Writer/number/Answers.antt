@@ -1,6 +1,6 @@
 -- `number` meets its contract: after k turns the first k digits are written.
 use mathlib.Core.Path.{sym, ◌∙◌}
-use Prim.Native.Nat.{◌-◌, ◌<◌}
+use Prim.Native.Nat.{◌<◌}
 use Rattle.listings.specs.Listing.{digit_count}
 use Rattle.writing.proofs.Puts.{written_none, written-more, written_all}
 use Rattle.listings.proofs.Characters.{length-decimal, at-decimal, digit_count-in}

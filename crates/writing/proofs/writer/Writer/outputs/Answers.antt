@@ -1,6 +1,6 @@
 -- `outputs` meets its contract: after k turns the first k characters are written.
 use mathlib.Core.Path.{sym, ap, ◌∙◌}
-use Prim.Native.Nat.{ℕ, ◌+◌, ◌-◌, ◌/◌, ◌^◌, ◌<◌}
+use Prim.Native.Nat.{ℕ, ◌+◌, ◌/◌, ◌^◌, ◌<◌}
 use lib.Bits.{and_mask}
 use Rattle.writing.proofs.Puts.{written_none, written-more, written_all}
 use Rattle.listings.proofs.Characters.{length-outputs, at-outputs}

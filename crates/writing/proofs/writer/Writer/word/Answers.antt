@@ -1,6 +1,5 @@
 -- `word` meets its contract: after k turns the first k bytes are written.
 use mathlib.Core.Path.{refl}
-use Prim.Native.Nat.{◌-◌}
 use Rattle.writing.proofs.Puts.{written_none, written-more, written_all}
 use Rattle.writing.proofs.writer.Writer.word.Goals as goal
 
