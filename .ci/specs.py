@@ -6,8 +6,11 @@ ROOT = pathlib.Path(__file__).resolve().parent.parent
 
 NAME = r"[^\s(){};,.λ∀→×≡]+"
 HEAD = re.compile(r'(?:(?:pub|unfoldable|abbrev|opaque)\s+)*(?:(record|data)\s+)?(' + NAME + r')')
-IMPORT = re.compile(r'(?:ghost )?use Rattle·(\w+?)(?:·specs)?\.specs\.([\w.]+?)(?:\.\{([^}]*)\}| as (\w+));?$')
+IMPORT = re.compile(r'(?:ghost )?use Rattle\.(\w+)\.specs\.([\w.]+?)(?:\.\{([^}]*)\}| as (\w+));?$')
 MEMBER = re.compile(r'  (?:pub )?(' + NAME + r') : ')
+
+# The crates of this repository; any other name after `Rattle.` is a library of the kit.
+CRATES = {path.parent.name for path in (ROOT / 'crates').glob('*/src')}
 
 
 class Imports:
@@ -16,6 +19,8 @@ class Imports:
     def __init__(self, lines):
         self.imports, self.aliases = {}, {}
         for found in filter(None, map(IMPORT.match, lines)):
+            if found.group(1) not in CRATES:
+                continue
             if found.group(4):
                 self.aliases[found.group(4)] = (found.group(1), found.group(2))
             else:
