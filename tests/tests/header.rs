@@ -119,8 +119,8 @@ fn between<'a>(text: &'a str, start: &str, end: &str) -> &'a str {
 }
 
 /// Every exported call has an inline one, which takes the same but `answer`. Its struct has a member for each number
-/// of the answer, in their order and under their names, and its body is the call and the copying of the numbers. A name
-/// that begins with the call's own, as `MIPALDOZ_QUOTE_LENGTH`, goes before one that does not.
+/// of the answer, in their order and under their names, and its body is the call and the copying of the numbers. The
+/// quotation's own names, as `MIPALDOZ_QUOTE_LENGTH`, begin with the call's.
 #[test]
 fn inline_calls_return_every_number_under_its_name() {
     let header = header();
@@ -149,8 +149,8 @@ fn inline_calls_return_every_number_under_its_name() {
         ];
         for (place, member) in members.iter().enumerate() {
             let name = |of: &str| format!("{of}_{member}").to_uppercase();
-            let own = Some(name(&call)).filter(|own| constants.contains_key(own));
-            let name = own.unwrap_or_else(|| name("mipaldoz"));
+            let is_own = call == "mipaldoz_quote" && constants.contains_key(&name(&call));
+            let name = name(if is_own { &call } else { "mipaldoz" });
             assert_eq!(constants.get(&name), Some(&place), "{call}: {name}");
             body.push(format!("result.{member} = answer[{name}];"));
         }
