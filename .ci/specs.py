@@ -33,7 +33,7 @@ class Imports:
                 continue
             found = IMPORT.match(line)
             if not found:
-                raise ValueError(f'{path.relative_to(ROOT)}: no rule reads {line}')
+                raise SystemExit(f'{path.relative_to(ROOT)}: no rule of .ci/specs.py reads {line}')
             crate, name, names, alias = found.groups()
             if alias:
                 self.aliases[alias] = (crate, name)
