@@ -181,11 +181,11 @@ fn words_in_c(header: &str) -> Words {
     cases.split("case ").skip(1).map(case).collect()
 }
 
-/// The words of the definition: the strings of `wordsInOrder` from 0 on, and of `refusalWords` for every other number.
+/// The words of the definition: the strings of `words_in_order` from 0 on, and of `refusal_words` for every other number.
 fn words_defined(definition: &str) -> Words {
-    let in_order = between(definition, "\nwordsInOrder =\n", "\n    ∷ []\n");
+    let in_order = between(definition, "\nwords_in_order =\n", "\n    ∷ []\n");
     let numbered = in_order.lines().enumerate().map(|(number, line)| (Some(number), strings(line)));
-    let other = between(definition, "\nrefusalWords number = getD wordsInOrder number ", "\n");
+    let other = between(definition, "\nrefusal_words number = get_or words_in_order number ", "\n");
     numbered.chain([(None, strings(other))]).collect()
 }
 
