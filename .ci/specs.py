@@ -5,21 +5,42 @@ import re
 ROOT = pathlib.Path(__file__).resolve().parent.parent
 
 NAME = r"[^\s(){};,.λ∀→×≡]+"
+# Before a name, as opposed to a field, which follows a dot: `e.products` cites `e`, and no definition `products`.
+BEGINS = r"(?<![^\s(){};,λ∀→×≡])"
 HEAD = re.compile(r'(?:(?:pub|unfoldable|abbrev|opaque)\s+)*(?:(record|data)\s+)?(' + NAME + r')')
-IMPORT = re.compile(r'(?:ghost )?use Rattle·(\w+?)(?:·specs)?\.specs\.([\w.]+?)(?:\.\{([^}]*)\}| as (\w+));?$')
+SPECS = re.compile(r'(?:pub |ghost )*use Rattle\.(\w+)\.specs\b')
+IMPORT = re.compile(r'(?:pub |ghost )*use Rattle\.(\w+)\.specs\.([\w.]+?)(?:\.\{([^}]*)\}| as (\w+));?$')
 MEMBER = re.compile(r'  (?:pub )?(' + NAME + r') : ')
+
+# The crates of this repository; any other name after `Rattle.` is a library of the kit.
+CRATES = {path.parent.name for path in (ROOT / 'crates').glob('*/src')}
+
+
+def lines_of(path):
+    """The lines of a file, each `use` on one line."""
+    one = lambda found: ' '.join(found.group().split())
+    return re.sub(r'^(?:pub |ghost )*use [^{;\n]*\{[^}]*\}', one, path.read_text(encoding='utf-8'), flags=re.M).splitlines()
 
 
 class Imports:
-    """The definitions of specs/ that the `use` lines of a file name: each by its name, or a module by another name."""
+    """The definitions of specs/ that the `use` lines of a file name: each by its name in the file, or a module by another name."""
 
-    def __init__(self, lines):
+    def __init__(self, path, lines):
         self.imports, self.aliases = {}, {}
-        for found in filter(None, map(IMPORT.match, lines)):
-            if found.group(4):
-                self.aliases[found.group(4)] = (found.group(1), found.group(2))
-            else:
-                self.imports |= {name.strip(): (found.group(1), found.group(2)) for name in found.group(3).split(',')}
+        for line in lines:
+            within = SPECS.match(line)
+            if not within or within.group(1) not in CRATES:
+                continue
+            found = IMPORT.match(line)
+            if not found:
+                raise SystemExit(f'{path.relative_to(ROOT)}: no rule of .ci/specs.py reads {line}')
+            crate, name, names, alias = found.groups()
+            if alias:
+                self.aliases[alias] = (crate, name)
+                continue
+            for item in filter(None, map(str.strip, names.split(','))):
+                there, _, here = item.partition(' as ')
+                self.imports[here or there] = (crate, name, there)
 
 
 class Module(Imports):
@@ -27,8 +48,8 @@ class Module(Imports):
 
     def __init__(self, crate, name):
         self.path = ROOT / 'crates' / crate / 'specs' / (name.replace('.', '/') + '.antt')
-        lines = self.path.read_text(encoding='utf-8').splitlines()
-        super().__init__(lines)
+        lines = lines_of(self.path)
+        super().__init__(self.path, lines)
         self.definitions, self.members = {}, {}
         comment, current = [], None
         for line in lines:
@@ -86,12 +107,12 @@ def module(crate, name):
 
 def cited(here, crate, text):
     """The definitions that a text of a file cites: (crate, module, name); the module is None for the file's own."""
-    for word in set(re.findall(NAME + r'(?:\.' + NAME + r')?', text)):
+    for word in set(re.findall(BEGINS + NAME + r'(?:\.' + NAME + r')?', text)):
         first, _, rest = word.partition('.')
         if rest and first in here.aliases:
             yield *here.aliases[first], rest
         for name in {word, first}:
             if name in here.imports:
-                yield *here.imports[name], name
+                yield here.imports[name]
             elif isinstance(here, Module) and (name in here.definitions or name in here.members):
                 yield crate, None, name

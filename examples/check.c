@@ -9,8 +9,8 @@
  *
  * To build it, from the root of the repository:
  *
- *     rt staticlib mipaldoz
- *     gcc -std=c99 -Wall -Wextra -Iinclude examples/check.c target/staticlib/libmipaldoz.a -o target/check
+ *     (cd crates/mipaldoz && rt lib); mkdir -p target
+ *     gcc -std=c99 -Wall -Wextra -Iinclude examples/check.c crates/mipaldoz/out/libmipaldoz.a -o target/check
  */
 #include "mipaldoz.h"
 

@@ -9,8 +9,8 @@
  *
  * To build it, from the root of the repository:
  *
- *     rt staticlib mipaldoz
- *     gcc -std=c99 -Wall -Wextra -Iinclude examples/compile.c target/staticlib/libmipaldoz.a -o target/compile
+ *     (cd crates/mipaldoz && rt lib); mkdir -p target
+ *     gcc -std=c99 -Wall -Wextra -Iinclude examples/compile.c crates/mipaldoz/out/libmipaldoz.a -o target/compile
  */
 #include "mipaldoz.h"
 

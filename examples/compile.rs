@@ -8,8 +8,8 @@
 //!
 //! To build it, from the root of the repository:
 //!
-//!     rt staticlib mipaldoz
-//!     rustc --edition 2021 -O examples/compile.rs -L target/staticlib -o target/compile-rs
+//!     (cd crates/mipaldoz && rt lib); mkdir -p target
+//!     rustc --edition 2021 -O examples/compile.rs -L crates/mipaldoz/out -o target/compile-rs
 
 use std::env;
 use std::fs::File;

@@ -12,8 +12,8 @@
  *
  * To build it, from the root of the repository:
  *
- *     rt staticlib mipaldoz
- *     gcc -std=c99 -Wall -Wextra -Iinclude examples/quote.c target/staticlib/libmipaldoz.a -o target/quote
+ *     (cd crates/mipaldoz && rt lib); mkdir -p target
+ *     gcc -std=c99 -Wall -Wextra -Iinclude examples/quote.c crates/mipaldoz/out/libmipaldoz.a -o target/quote
  */
 #include "mipaldoz.h"
 

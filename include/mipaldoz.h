@@ -2,8 +2,8 @@
  * The calls of Mipaldoz for programs in C (C99) and C++ (C++98): both transforms, the minimising call, the reading
  * call, the text call, the quotation of a table text and the fitter's check of a listing.
  *
- *     rt staticlib mipaldoz                                          writes target/staticlib/libmipaldoz.a
- *     cc -Iinclude program.c target/staticlib/libmipaldoz.a          links it; no other library is needed
+ *     (cd crates/mipaldoz && rt lib)                                 makes crates/mipaldoz/out/libmipaldoz.a
+ *     cc -Iinclude program.c crates/mipaldoz/out/libmipaldoz.a       links it; no other library is needed
  *
  * docs/CALLS.md shows how to build and to call, docs/GUIDE.md says what a table text, a listing and their numbers are,
  * docs/SPECIFICATION.md gives the exact rules, and docs/PROMISES.md what is proved of each call. examples/compile.c,

@@ -14,10 +14,10 @@ fn variable(name: &str) -> PathBuf {
     PathBuf::from(env::var(name).unwrap_or_else(|_| panic!("cargo sets {name}")))
 }
 
-/// `libmipaldoz.a` in the directory named by MIPALDOZ_STATICLIB, or in ../target/staticlib.
+/// `libmipaldoz.a` in the directory named by MIPALDOZ_STATICLIB, or in ../crates/mipaldoz/out, where `rt lib` makes it.
 fn link_calls() {
     println!("cargo:rerun-if-env-changed=MIPALDOZ_STATICLIB");
-    let beside = variable("CARGO_MANIFEST_DIR").join("../target/staticlib");
+    let beside = variable("CARGO_MANIFEST_DIR").join("../crates/mipaldoz/out");
     let directory = env::var("MIPALDOZ_STATICLIB").map_or(beside, PathBuf::from);
     let library = directory.join("libmipaldoz.a");
     println!("cargo:rerun-if-changed={}", library.display());

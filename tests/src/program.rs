@@ -9,19 +9,21 @@ use std::{env, fs, process};
 /// How many bytes the programs judge: of standard input, and of each file.
 pub const JUDGED_BYTES: usize = 8192;
 
-/// The program named by MIPALDOZ_RMFORM, or ../target/bin/rmform beside the package.
+/// The program named by MIPALDOZ_RMFORM, or ../crates/rmform/out/rmform beside the package.
 pub fn path() -> PathBuf {
     path_of("MIPALDOZ_RMFORM", "rmform")
 }
 
-/// The program named by MIPALDOZ_RMQUOTE, or ../target/bin/rmquote beside the package.
+/// The program named by MIPALDOZ_RMQUOTE, or ../crates/rmquote/out/rmquote beside the package.
 pub fn quote_path() -> PathBuf {
     path_of("MIPALDOZ_RMQUOTE", "rmquote")
 }
 
-/// The program named by this variable, or the one of this name in ../target/bin beside the package.
+/// The program named by this variable, or the one of this name in ../crates beside the package, where `rt ci` leaves it
+/// and `rt run` makes it.
 fn path_of(variable: &str, name: &str) -> PathBuf {
-    let beside = Path::new(env!("CARGO_MANIFEST_DIR")).join("../target/bin").join(name);
+    let crates = Path::new(env!("CARGO_MANIFEST_DIR")).join("../crates");
+    let beside = crates.join(name).join("out").join(name);
     env::var(variable).map_or(beside, PathBuf::from)
 }
 

@@ -94,7 +94,14 @@ impl TextProgram {
     /// after the 8,192 bytes is not judged.
     pub fn check_a_file_by_name(&self) {
         let long = [&[b'x'; JUDGED_BYTES][..], b"\n"].concat();
-        for text in [&bytes(EXAMPLE)[..], b"table\t2\t1\t1\non\t4\t1\n", b"", &long[1..], &long] {
+        for text in [
+            &bytes(EXAMPLE)[..],
+            b"table\t2\t1\t1\non\t4\t1\n",
+            b"",
+            &[b'x'; 10_000],
+            &long[1..],
+            &long,
+        ] {
             let file = Written::new(text);
             let name = file.path().to_str().expect("a name in text");
             let output = self.run(&[file.path()], b"table\t1\t1\t0\nend\n");

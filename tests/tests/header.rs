@@ -119,8 +119,8 @@ fn between<'a>(text: &'a str, start: &str, end: &str) -> &'a str {
 }
 
 /// Every exported call has an inline one, which takes the same but `answer`. Its struct has a member for each number
-/// of the answer, in their order and under their names, and its body is the call and the copying of the numbers. A name
-/// that begins with the call's own, as `MIPALDOZ_QUOTE_LENGTH`, goes before one that does not.
+/// of the answer, in their order and under their names, and its body is the call and the copying of the numbers. The
+/// quotation's own names, as `MIPALDOZ_QUOTE_LENGTH`, begin with the call's.
 #[test]
 fn inline_calls_return_every_number_under_its_name() {
     let header = header();
@@ -149,8 +149,8 @@ fn inline_calls_return_every_number_under_its_name() {
         ];
         for (place, member) in members.iter().enumerate() {
             let name = |of: &str| format!("{of}_{member}").to_uppercase();
-            let own = Some(name(&call)).filter(|own| constants.contains_key(own));
-            let name = own.unwrap_or_else(|| name("mipaldoz"));
+            let is_own = call == "mipaldoz_quote" && constants.contains_key(&name(&call));
+            let name = name(if is_own { &call } else { "mipaldoz" });
             assert_eq!(constants.get(&name), Some(&place), "{call}: {name}");
             body.push(format!("result.{member} = answer[{name}];"));
         }
@@ -181,11 +181,11 @@ fn words_in_c(header: &str) -> Words {
     cases.split("case ").skip(1).map(case).collect()
 }
 
-/// The words of the definition: the strings of `wordsInOrder` from 0 on, and of `refusalWords` for every other number.
+/// The words of the definition: the strings of `words_in_order` from 0 on, and of `refusal_words` for every other number.
 fn words_defined(definition: &str) -> Words {
-    let in_order = between(definition, "\nwordsInOrder =\n", "\n    ∷ []\n");
+    let in_order = between(definition, "\nwords_in_order =\n", "\n    ∷ []\n");
     let numbered = in_order.lines().enumerate().map(|(number, line)| (Some(number), strings(line)));
-    let other = between(definition, "\nrefusalWords number = getD wordsInOrder number ", "\n");
+    let other = between(definition, "\nrefusal_words number = get_or words_in_order number ", "\n");
     numbered.chain([(None, strings(other))]).collect()
 }
 
