@@ -183,6 +183,10 @@ module _ (n m p : ℕ) (c : ℕ → ℕ) (counted : p ≡ products n c) where
   width : n + m + 7 ≡ 5 + n + 1 + m + 1
   width = omega arith
 
+  pub length-products : (x : ℕ → List ℕ) → ((t : ℕ) → length (x t) ≡ n) → p * (n + m + 7) ≡ length (cube_lines m x c (2 ^ n))
+  unfolding products
+  length-products x h = rw (counted, width) (sym (length-cube_lines n m x c h (2 ^ n)))
+
   pub length-stated : (first : List ℕ) (x : ℕ → List ℕ) → ((t : ℕ) → length (x t) ≡ n)
       → length first + p * (n + m + 7) + 4 ≡ length (listing_after first n m x c)
   length-stated first x h =

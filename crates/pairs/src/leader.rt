@@ -68,7 +68,7 @@ fn pair_charge(rows: &[u64; 512], sizes: Sizes, lanes: &[u8]) -> u32
     first.charge + others_charge(rows, sizes, lanes, false) * 256
 }
 
-// The leader once the pair of `mixed` and the closed_up polarity w has been tried, from its block functions.
+// The leader once the pair of `mixed` and the closed-up polarity w has been tried, from its block functions.
 fn try_polarity(
     rows: &[u64; 512],
     sizes: Sizes,

@@ -42,7 +42,7 @@ term_literal letters t i = literal_of (letters i) (bit i t)
 unfoldable pub TermTrue : (n : ℕ) (letters : ℕ → ℕ) (t p : ℕ) → Type 0
 TermTrue n letters t p = (i : ℕ) → i < n → T (literal_true (term_literal letters t i) (bit i p))
 
--- TermTrue as a test (proofs/Kronecker/Values, `Term-words`)
+-- TermTrue as a test (proofs/Kronecker/Values, `term_words`)
 unfoldable pub term_true : (n : ℕ) (letters : ℕ → ℕ) (t p : ℕ) → Bool
 term_true zero letters t p = true
 term_true (suc n) letters t p = literal_true (term_literal letters t n) (bit n p) && term_true n letters t p
