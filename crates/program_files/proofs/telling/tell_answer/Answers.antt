@@ -3,6 +3,6 @@ use borrow.Author.Rules.{rules}
 use Rattle.program_files.proofs.telling.tell_answer.Goals as goal
 
 pub returns : goal.returns
-returns c =
+returns g c =
     let told = c.refusal_in.ensures in
     rw (told.0, told.1) at c.tell_refusal.ensures

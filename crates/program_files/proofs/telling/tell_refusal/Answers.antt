@@ -6,10 +6,10 @@ use lib.Seq.{length-take-le}
 use Rattle.program_files.proofs.telling.tell_refusal.Goals as goal
 
 pub returns-then-refusal-eq0 : goal.returns-then-refusal-eq0
-returns-then-refusal-eq0 c = rw (eq-eqb _ _ c.if-refusal-eq0.true)
+returns-then-refusal-eq0 g c = rw (eq-eqb _ _ c.if-refusal-eq0.true)
 
 pub slice_bounds-write_all-end : goal.slice_bounds-write_all-end
-slice_bounds-write_all-end c = sym (length-take-le _ _ c.explain-said.ensures.within)
+slice_bounds-write_all-end g c = sym (length-take-le _ _ c.explain-said.ensures.within)
 
 pub returns : goal.returns
-returns c = rw (ne_eqb _ _ c.if-refusal-eq0.false) c.explain-said.ensures.counted
+returns g c = rw (ne_eqb _ _ c.if-refusal-eq0.false) c.explain-said.ensures.counted
