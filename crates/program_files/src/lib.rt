@@ -4,7 +4,7 @@
 #![tactic(auto)]
 
 pub mod arguments;
-pub mod failures;
+mod failures;
 pub mod reading;
 pub mod sources;
 pub mod telling;

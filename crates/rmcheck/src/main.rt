@@ -14,8 +14,12 @@ use text::print::Printed;
 // Says how the program is used.
 fn usage(rt: &impl Eprint) {
     let _ = eprintln!(rt; "usage: rmcheck TABLE LISTING");
-    let _ = eprintln!(rt; "Checks the file LISTING beside its table text, the file TABLE: writes `same`, `differs` and a point, `not of the class`,");
-    let _ = eprintln!(rt; "or `refused`, number, line, and explains a refusal on standard error. docs/GUIDE.md has each answer and each refusal.");
+    let _ = eprintln!(rt;
+        "Checks the file LISTING beside its table text, the file TABLE: writes `same`, `differs` and a point, `not of the class`,"
+    );
+    let _ = eprintln!(rt;
+        "or `refused`, number, line, and explains a refusal on standard error. docs/GUIDE.md has each answer and each refusal."
+    );
 }
 
 // Says which argument is missing, where `arguments` were given, and how the program is used.

@@ -12,8 +12,12 @@ use text::print::{Printed, print_answer};
 // Says how the program is used.
 fn usage(rt: &impl Eprint) {
     let _ = eprintln!(rt; "usage: rmform [FILE]");
-    let _ = eprintln!(rt; "Compiles the table text in FILE, or on standard input: writes its listing, or the line `refused`, number, line.");
-    let _ = eprintln!(rt; "A refusal is explained on standard error. docs/GUIDE.md has the grammar of a table text and each refusal.");
+    let _ = eprintln!(rt;
+        "Compiles the table text in FILE, or on standard input: writes its listing, or the line `refused`, number, line."
+    );
+    let _ = eprintln!(rt;
+        "A refusal is explained on standard error. docs/GUIDE.md has the grammar of a table text and each refusal."
+    );
 }
 
 fn main(rt: HostRuntime) {
@@ -32,6 +36,12 @@ fn main(rt: HostRuntime) {
         let printed = print_answer(&input[..length]);
         let bytes = printed.bytes;
         let count = printed.length;
-        tell_answer(&rt, &errors, &bytes[..count], &name[..named], &input[..length]);
+        tell_answer(
+            &rt,
+            &errors,
+            &bytes[..count],
+            &name[..named],
+            &input[..length],
+        );
     }
 }

@@ -12,8 +12,12 @@ use text::print::Printed;
 // Says how the program is used.
 fn usage(rt: &impl Eprint) {
     let _ = eprintln!(rt; "usage: rmquote [FILE]");
-    let _ = eprintln!(rt; "Quotes the table text in FILE, or on standard input: writes `quote`, products, literals and the length of its listing in bytes,");
-    let _ = eprintln!(rt; "or the line `refused`, number, line, and explains a refusal on standard error. docs/GUIDE.md has each number and each refusal.");
+    let _ = eprintln!(rt;
+        "Quotes the table text in FILE, or on standard input: writes `quote`, products, literals and the length of its listing in bytes,"
+    );
+    let _ = eprintln!(rt;
+        "or the line `refused`, number, line, and explains a refusal on standard error. docs/GUIDE.md has each number and each refusal."
+    );
 }
 
 fn main(rt: HostRuntime) {
@@ -32,6 +36,12 @@ fn main(rt: HostRuntime) {
         let printed = print_quotation(&input[..length]);
         let bytes = printed.bytes;
         let count = printed.length;
-        tell_answer(&rt, &errors, &bytes[..count], &name[..named], &input[..length]);
+        tell_answer(
+            &rt,
+            &errors,
+            &bytes[..count],
+            &name[..named],
+            &input[..length],
+        );
     }
 }
