@@ -1,11 +1,13 @@
 // Reading into a lent buffer until it is full.
-ghost use Rattle.std.specs.Prelude.{◌≤◌, length};
+ghost use Rattle.std.specs.Prelude.{◌≤◌, length, take};
+ghost use Rattle.std.specs.Io.KnownBytes.{Consumes};
 
 use std::io::Read;
 
-// Reads until `bytes` is full, the input ends or a read fails, and gives how many bytes were put at its front.
-pub fn read_full(reader: &mut impl Read, bytes: &mut [u8]) -> usize
-    ensures { result ≤ length bytes.new }
+// Reads until `bytes` is full, the input ends or a read fails, and gives how many bytes were put at its front: those that the reader gave.
+pub fn read_full<R: Read>(reader: &mut R, bytes: &mut [u8]) -> usize
+    ensures within { result ≤ length bytes.new }
+    ensures given { Consumes (R.remaining reader.old) (R.remaining reader.new) (take result bytes.new) }
 {
     let mut filled = 0;
     while filled < bytes.len() {

@@ -1,7 +1,6 @@
 -- `is_help` meets its contract, by that of `same`.
 use mathlib.Core.Path.{◌∙◌}
 use Rattle.listings.specs.Parts.{bytes}
-use borrow.Author.Rules.{rules}
 use Rattle.program_files.proofs.arguments.is_help.Goals as goal
 
 pub returns-then-same : goal.returns-then-same

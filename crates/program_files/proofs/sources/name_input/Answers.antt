@@ -1,5 +1,4 @@
 -- `name_input` meets its contract: where there is room for the two words, they are written.
-use borrow.Author.Rules.{rules}
 use Rattle.listings.specs.Parts.{bytes}
 use Rattle.program_files.proofs.sources.name_input.Goals as goal
 
