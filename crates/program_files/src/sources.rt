@@ -37,11 +37,11 @@ pub fn read_argument<R: Env + Files>(
     let named = match rt.arg(i, name) {
         Ok(named) => named,
         Err(error) => {
-            tell_failure(errors, b"an argument is too long", missing(error));
+            tell_failure(errors, b"an argument is too long", argument_error(error));
             return unread();
         }
     };
-    let mut file = match open(rt, &name[..named]) {
+    let mut file = match open_named(rt, &name[..named]) {
         Ok(file) => file,
         Err(error) => {
             tell_failure(errors, &name[..named], error);
@@ -93,7 +93,7 @@ pub fn read_input<R: Env + Files + Input>(
 }
 
 // Why an argument is not there, in the words that the system has for it.
-fn missing(error: FillError) -> Error {
+fn argument_error(error: FillError) -> Error {
     match error {
         FillError::TooLong => Error::other("File name too long"),
         FillError::NotPresent => Error::other("Invalid argument"),
@@ -101,7 +101,7 @@ fn missing(error: FillError) -> Error {
 }
 
 // Opens the file of this name. A name that is no text names no file that can be opened.
-fn open<R: Files>(rt: &R, name: &[u8]) -> io::Result<R::File> {
+fn open_named<R: Files>(rt: &R, name: &[u8]) -> io::Result<R::File> {
     match str::from_utf8(name) {
         Ok(path) => fs::open(rt, path),
         Err(_) => Err(Error::other("the name is not UTF-8 text")),
