@@ -4,7 +4,8 @@
 // accepted is shorter than the 8,192 bytes that are judged: it has at most 4,004 (the law `accepted-text-length` of the crate `table_texts`).
 #![tactic(auto)]
 
-use libc::{STDIN_FILENO, STDOUT_FILENO};
+use program_files::reading::read_full;
+use std::io::Read;
 use text::print::{Printed, print_answer};
 
 // What a length line says; or the input has ended.
@@ -15,9 +16,9 @@ enum Length {
 }
 
 // The next byte of the input as a digit; 10 where it is no digit, or where the input has ended.
-fn next_digit() -> usize {
+fn next_digit(input: &mut impl Read) -> usize {
     let mut byte = [10u8; 1];
-    io::read_full(STDIN_FILENO, &mut byte);
+    read_full(input, &mut byte);
     let b = byte[0];
     if b < b'0' {
         return 10;
@@ -29,11 +30,11 @@ fn next_digit() -> usize {
 }
 
 // Reads a length line, a number of one to four digits and the byte after it. A line with no digit, or with more, ends the input.
-fn read_length() -> Length {
+fn read_length(input: &mut impl Read) -> Length {
     let mut length: usize = 0;
     let mut digits: usize = 0;
     while digits < 5 {
-        let digit = next_digit();
+        let digit = next_digit(input);
         if digit > 9 {
             break;
         }
@@ -50,23 +51,23 @@ fn read_length() -> Length {
 }
 
 // Fills `text` from the input, and writes the answer of what was read.
-fn answer_text(text: &mut [u8]) {
-    let read = io::read_full(STDIN_FILENO, text);
+fn answer_text(input: &mut impl Read, answers: &impl Print, text: &mut [u8]) {
+    let read = read_full(input, text);
     let printed = print_answer(&text[..read]);
     let bytes = printed.bytes;
     let length = printed.length;
-    io::write_all(STDOUT_FILENO, &bytes[..length]);
+    let _ = answers.write_all(&bytes[..length]);
 }
 
 // Answers the next case, and says whether there was one. A text is at most 8,192 bytes.
-fn answer_next() -> bool {
+fn answer_next(input: &mut impl Read, answers: &impl Print) -> bool {
     let mut buffer = [0u8; Printed::INPUT_BYTES];
-    match read_length() {
+    match read_length(input) {
         Length::Is(length) => {
             if length > Printed::INPUT_BYTES {
                 return false;
             }
-            answer_text(&mut buffer[..length]);
+            answer_text(input, answers, &mut buffer[..length]);
             true
         }
         Length::Ended => false,
@@ -74,9 +75,10 @@ fn answer_next() -> bool {
 }
 
 // A loop has to end, and nothing says that the input does, so the loop counts down from more cases than there are.
-fn main() {
+fn main(rt: HostRuntime) {
+    let mut input = rt.stdin();
     let mut left: usize = 10000;
-    while left > 0 && answer_next() {
+    while left > 0 && answer_next(&mut input, &rt) {
         left -= 1;
     }
 }

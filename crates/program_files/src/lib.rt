@@ -4,5 +4,7 @@
 #![tactic(auto)]
 
 pub mod arguments;
+mod failures;
+pub mod reading;
 pub mod sources;
 pub mod telling;

@@ -3,7 +3,12 @@ ghost use Rattle.std.specs.Prelude.{◌≤◌, length};
 ghost use Rattle.listings.specs.Parts.{bytes};
 ghost use Rattle.writing.specs.Put.{Put};
 
-use libc::STDIN_FILENO;
+use crate::failures::tell_failure;
+use crate::reading::read_full;
+use std::env::{Env, FillError};
+use std::io::{Error, Read};
+use std::rt::Files;
+use std::{fs, io};
 use writing::writer::Writer;
 
 // What was read: whether the file could be read, how many bytes its name has, and how many bytes were read of it.
@@ -14,26 +19,37 @@ pub struct Source {
     pub length: usize,
 }
 
+impl Source {
+    // Room for a name: a path has no more.
+    pub const NAME_BYTES: usize = 4096;
+}
+
 // Puts argument i into `name`, and the first bytes of the file of that name into `bytes`. Where it cannot, it says why on standard error.
-pub fn read_argument(i: usize, name: &mut [u8], bytes: &mut [u8]) -> Source
+pub fn read_argument<R: Env + Files>(
+    rt: &R,
+    errors: &impl Print,
+    i: usize,
+    name: &mut [u8],
+    bytes: &mut [u8],
+) -> Source
     ensures { (result.named ≤ length name.new) × (result.length ≤ length bytes.new) }
 {
-    let named = os::arg(i, name);
-    if os::errno() != 0 {
-        os::fail(b"an argument is too long");
-        return unread();
-    }
-    let file = os::open_read(&name[..named]);
-    if file < 0 {
-        os::fail(&name[..named]);
-        return unread();
-    }
-    let length = io::read_full(file, bytes);
-    let readable = length != 0 || at_end(file);
-    if !readable {
-        os::fail(&name[..named]);
-    }
-    libc::close(file);
+    let named = match rt.arg(i, name) {
+        Ok(named) => named,
+        Err(error) => {
+            tell_failure(errors, b"an argument is too long", argument_error(error));
+            return unread();
+        }
+    };
+    let mut file = match open_named(rt, &name[..named]) {
+        Ok(file) => file,
+        Err(error) => {
+            tell_failure(errors, &name[..named], error);
+            return unread();
+        }
+    };
+    let length = read_full(&mut file, bytes);
+    let readable = length != 0 || at_end(&mut file, errors, &name[..named]);
     Source {
         readable,
         named, // of the file
@@ -55,14 +71,20 @@ fn name_input(name: &mut [u8]) -> usize
 
 // What a program of one file reads: puts the first bytes of the file that its argument names into `bytes`, and the argument into `name`; with no argument
 // those of standard input, and these two words.
-pub fn read_input(arguments: usize, name: &mut [u8], bytes: &mut [u8]) -> Source
+pub fn read_input<R: Env + Files + Input>(
+    rt: &R,
+    errors: &impl Print,
+    arguments: usize,
+    name: &mut [u8],
+    bytes: &mut [u8],
+) -> Source
     ensures { (result.named ≤ length name.new) × (result.length ≤ length bytes.new) }
 {
     if arguments != 0 {
-        return read_argument(1, name, bytes);
+        return read_argument(rt, errors, 1, name, bytes);
     }
     let named = name_input(name);
-    let length = io::read_full(STDIN_FILENO, bytes);
+    let length = read_full(&mut rt.reader(), bytes);
     Source {
         readable: true,
         named, // of standard input
@@ -70,10 +92,32 @@ pub fn read_input(arguments: usize, name: &mut [u8], bytes: &mut [u8]) -> Source
     }
 }
 
-// Whether a file is at its end; where it cannot be read, as a folder, it is not.
-fn at_end(file: i32) -> bool {
+// Why an argument is not there, in the words that the system has for it.
+fn argument_error(error: FillError) -> Error {
+    match error {
+        FillError::TooLong => Error::other("File name too long"),
+        FillError::NotPresent => Error::other("Invalid argument"),
+    }
+}
+
+// Opens the file of this name. A name that is no text names no file that can be opened.
+fn open_named<R: Files>(rt: &R, name: &[u8]) -> io::Result<R::File> {
+    match str::from_utf8(name) {
+        Ok(path) => fs::open(rt, path),
+        Err(_) => Err(Error::other("the name is not UTF-8 text")),
+    }
+}
+
+// Whether a file is at its end; where it cannot be read, as a folder, it is not, and this says why on standard error.
+fn at_end(file: &mut impl Read, errors: &impl Print, name: &[u8]) -> bool {
     let mut next = [0u8; 1];
-    libc::read(file, &mut next) == 0
+    let error = match file.read(&mut next) {
+        Ok(0) => return true,
+        Ok(_) => Error::other("Input/output error"),
+        Err(error) => error,
+    };
+    tell_failure(errors, name, error);
+    false
 }
 
 // Nothing was read.

@@ -3,12 +3,11 @@ ghost use Rattle.std.specs.Prelude.{cond, ◌≡◌, zero, eqb, length};
 ghost use Rattle.refusal_words.specs.PrintedRefusal.{told};
 ghost use Rattle.refusal_words.specs.Sentences.{sentence};
 
-use libc::{STDERR_FILENO, STDOUT_FILENO};
 use refusal_words::refusal::{Refusal, refusal_in};
 use refusal_words::sentence::explain;
 
 // Writes the sentence of a refusal of a text, of this name, and gives its length; where nothing was refused, nothing is written.
-pub fn tell_refusal(refusal: Refusal, name: &[u8], text: &[u8]) -> usize
+pub fn tell_refusal(errors: &impl Print, refusal: Refusal, name: &[u8], text: &[u8]) -> usize
     ensures { result ≡ cond (eqb refusal.number 0) zero (length (sentence name.now refusal.number refusal.line text.now)) }
 {
     if refusal.number == 0 {
@@ -17,14 +16,20 @@ pub fn tell_refusal(refusal: Refusal, name: &[u8], text: &[u8]) -> usize
     let said = explain(name, refusal.number, refusal.line, text);
     let bytes = said.bytes;
     let length = said.length;
-    io::write_all(STDERR_FILENO, &bytes[..length]);
+    let _ = errors.write_all(&bytes[..length]);
     length
 }
 
 // Writes what a program prints for a text, of this name, and the sentence of the refusal where that is one; gives the length of the sentence.
-pub fn tell_answer(printed: &[u8], name: &[u8], text: &[u8]) -> usize
+pub fn tell_answer(
+    answers: &impl Print,
+    errors: &impl Print,
+    printed: &[u8],
+    name: &[u8],
+    text: &[u8],
+) -> usize
     ensures { result ≡ cond (eqb (told 1 printed.now) 0) zero (length (sentence name.now (told 1 printed.now) (told 2 printed.now) text.now)) }
 {
-    io::write_all(STDOUT_FILENO, printed);
-    tell_refusal(refusal_in(printed), name, text)
+    let _ = answers.write_all(printed);
+    tell_refusal(errors, refusal_in(printed), name, text)
 }

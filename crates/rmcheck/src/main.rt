@@ -5,69 +5,74 @@
 #![tactic(auto)]
 
 use fitter::print::print_check;
-use libc::{STDERR_FILENO, STDOUT_FILENO};
 use program_files::arguments::argument_count;
-use program_files::sources::read_argument;
+use program_files::sources::{Source, read_argument};
 use program_files::telling::tell_refusal;
 use refusal_words::refusal::refusal_in;
 use text::print::Printed;
 
 // Says how the program is used.
-fn usage() {
-    io::write_all(STDERR_FILENO, b"usage: rmcheck TABLE LISTING\n");
-    io::write_all(
-        STDERR_FILENO,
-        b"Checks the file LISTING beside its table text, the file TABLE: writes `same`, `differs` and a point, `not of the class`,\n",
+fn usage(rt: &impl Eprint) {
+    let _ = eprintln!(rt; "usage: rmcheck TABLE LISTING");
+    let _ = eprintln!(rt;
+        "Checks the file LISTING beside its table text, the file TABLE: writes `same`, `differs` and a point, `not of the class`,"
     );
-    io::write_all(
-        STDERR_FILENO,
-        b"or `refused`, number, line, and explains a refusal on standard error. docs/GUIDE.md has each answer and each refusal.\n",
+    let _ = eprintln!(rt;
+        "or `refused`, number, line, and explains a refusal on standard error. docs/GUIDE.md has each answer and each refusal."
     );
 }
 
 // Says which argument is missing, where `arguments` were given, and how the program is used.
-fn missing(arguments: usize) {
+fn missing(rt: &impl Eprint, arguments: usize) {
     if arguments == 0 {
-        io::write_all(STDERR_FILENO, b"rmcheck: the argument TABLE is missing\n");
+        let _ = eprintln!(rt; "rmcheck: the argument TABLE is missing");
     } else {
-        io::write_all(STDERR_FILENO, b"rmcheck: the argument LISTING is missing\n");
+        let _ = eprintln!(rt; "rmcheck: the argument LISTING is missing");
     }
-    usage();
+    usage(rt);
 }
 
 // Writes the answer for a table text and a listing, and explains it where it is a refusal, of the one or of the other.
-fn answer(table_name: &[u8], text: &[u8], listing_name: &[u8], listing: &[u8]) {
+fn answer(
+    answers: &impl Print,
+    errors: &impl Print,
+    table_name: &[u8],
+    text: &[u8],
+    listing_name: &[u8],
+    listing: &[u8],
+) {
     let printed = print_check(text, listing);
     let bytes = printed.bytes;
     let length = printed.length;
-    io::write_all(STDOUT_FILENO, &bytes[..length]);
+    let _ = answers.write_all(&bytes[..length]);
     let refusal = refusal_in(&bytes[..length]);
     if refusal.listing {
-        tell_refusal(refusal, listing_name, listing);
+        tell_refusal(errors, refusal, listing_name, listing);
     } else {
-        tell_refusal(refusal, table_name, text);
+        tell_refusal(errors, refusal, table_name, text);
     }
 }
 
-fn main() {
-    let arguments = argument_count(2);
+fn main(rt: HostRuntime) {
+    let errors = rt.stderr();
+    let arguments = argument_count(&rt, 2);
     if 2 < arguments {
-        usage();
+        usage(&rt);
         return;
     }
     if arguments < 2 {
-        missing(arguments);
+        missing(&rt, arguments);
         return;
     }
-    let mut table_name = io::buffer();
-    let mut listing_name = io::buffer();
+    let mut table_name = [0u8; Source::NAME_BYTES];
+    let mut listing_name = [0u8; Source::NAME_BYTES];
     let mut text = [0u8; Printed::INPUT_BYTES];
     let mut listing = [0u8; Printed::INPUT_BYTES];
-    let first = read_argument(1, &mut table_name, &mut text);
+    let first = read_argument(&rt, &errors, 1, &mut table_name, &mut text);
     if !first.readable {
         return;
     }
-    let second = read_argument(2, &mut listing_name, &mut listing);
+    let second = read_argument(&rt, &errors, 2, &mut listing_name, &mut listing);
     if !second.readable {
         return;
     }
@@ -76,6 +81,8 @@ fn main() {
     let listing_named = second.named;
     let listing_length = second.length;
     answer(
+        &rt,
+        &errors,
         &table_name[..table_named],
         &text[..text_length],
         &listing_name[..listing_named],

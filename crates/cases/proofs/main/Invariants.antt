@@ -1,7 +1,5 @@
+-- `main` ends: the measure is the number of cases that may still come.
 use Rattle.cases.proofs.main.Given as goal
-
-abbrev pub invariant-loop-left : goal.invariant-loop-left
-invariant-loop-left l = Unit {0}
 
 abbrev pub decreases-loop-left : goal.decreases-loop-left
 decreases-loop-left l = l.left

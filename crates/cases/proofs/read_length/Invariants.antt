@@ -1,8 +1,6 @@
-use Prim.Native.Nat.{◌-◌}
+-- `read_length` ends: the measure is the number of digits that may still come.
+use Rattle.std.proofs.Common.{◌-◌}
 use Rattle.cases.proofs.read_length.Given as goal
 
-abbrev pub invariant-loop-digits : goal.invariant-loop-digits
-invariant-loop-digits l = Unit {0}
-
 abbrev pub decreases-loop-digits : goal.decreases-loop-digits
-decreases-loop-digits l = 5 - l.digits
+decreases-loop-digits g l = 5 - l.digits
