@@ -1,11 +1,13 @@
 // What the programs print for a text: the listing of its answer, or the line `refused`, number, line.
 // The main property, for every input: the bytes handed out begin with `printed input` of specs/Print.antt, and `length` is how many they are.
 ghost use Rattle.std.specs.Prelude.{◌≡◌, ◌≤◌, length, take};
+ghost use Rattle.writing.specs.Put.{Put};
 ghost use Rattle.text.specs.Print.{Print};
-ghost use Rattle.text.specs.Judged.{judged};
+ghost use Rattle.text.specs.Judged.{judged, refused_line};
 
 use crate::compile::{Compiled, compile};
-use writing::line::write_refused;
+use writing::line::write_line;
+use writing::writer::Writer;
 
 // What is printed: the first `length` of the bytes. The bytes past them are zero.
 #[derive(Clone, Copy)]
@@ -31,6 +33,15 @@ pub fn judged_length(input: &[u8]) -> usize
     } else {
         Printed::INPUT_BYTES
     }
+}
+
+// Writes the line `refused`, number, line into the front of `out`, and gives the line's length.
+fn write_refused(number: usize, line: usize, out: &mut [u8]) -> usize
+    requires { 18 ≤ length out.old }
+    ensures { Put out.old 0 (refused_line number line) out.new result }
+{
+    let stop = write_line(Writer { at: 0 }, out, b"refused", &[number, line]);
+    stop.at
 }
 
 // What is printed for the input, of which the first 8,192 bytes are judged as the whole text.
