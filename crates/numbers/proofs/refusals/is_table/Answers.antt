@@ -3,6 +3,7 @@ use mathlib.Core.Path.{◌≡◌, sym, ◌∙◌}
 use Prim.Native.Nat.{◌*◌, ◌^◌, ◌%◌}
 use borrow.Author.Tests.{eq-eqb, ne_eqb}
 use native.Mathlib.Omega.{arith}
+use lib.ListN.{length}
 use Rattle.numbers.specs.Refusals.{table_refusal, is_table}
 use Rattle.numbers.proofs.Shifts.{one_shifted}
 use Rattle.numbers.proofs.refusals.Judging.{table_none}
@@ -28,4 +29,6 @@ returns-then-bytes-size c = rw (none (goal.at.returns-then-bytes-size c).Else-ju
 
 pub returns : goal.returns
 unfolding is_table
-returns c = c.within_outputs.ensures ∙ sym (rw (none (goal.at.returns c).Else-judge_table-ne0, eq-eqb _ _ (c.if-bytes-size.false ∙ size (goal.at.returns c).Else-judge_table-ne0)))
+returns c =
+    let same : length c.args.bytes.now ≡ 1 * 2 ^ c.args.n % 2 ^ 64 = omega arith in
+    c.within_outputs.ensures ∙ sym (rw (none (goal.at.returns c).Else-judge_table-ne0, eq-eqb _ _ (same ∙ size (goal.at.returns c).Else-judge_table-ne0)))

@@ -1,5 +1,6 @@
 -- `judge_sizes` meets its contract: the table's refusal comes first, and then each return is one test on k.
 use borrow.Author.Tests.{le-leb, lt-leb}
+use native.Mathlib.Omega.{arith}
 use mathlib.Core.Path.{sym, ◌∙◌}
 use Rattle.numbers.specs.Refusals.{sizes_refusal}
 use Rattle.numbers.proofs.refusals.Judging.{or-else-refused, or-else-passed}
@@ -12,14 +13,14 @@ returns-then-number-ne0 c = or-else-refused _ _ _ c.judge_table-number.ensures c
 pub returns-then-most-k : goal.returns-then-most-k
 unfolding sizes_refusal
 returns-then-most-k c =
-    sym (or-else-passed _ _ _ c.judge_table-number.ensures c.if-number-ne0.false ∙ rw (lt-leb _ _ c.if-most-k.true))
+    sym (or-else-passed _ _ _ c.judge_table-number.ensures (omega arith) ∙ rw (lt-leb c.args.k c.args.most (omega arith)))
 
 pub returns-then-n-k : goal.returns-then-n-k
 unfolding sizes_refusal
 returns-then-n-k c =
-    sym (or-else-passed _ _ _ c.judge_table-number.ensures c.if-number-ne0.false ∙ rw (le-leb _ _ c.if-most-k.false, lt-leb _ _ c.if-n-k.true))
+    sym (or-else-passed _ _ _ c.judge_table-number.ensures (omega arith) ∙ rw (le-leb c.args.k c.args.most (omega arith), lt-leb c.args.k c.args.n (omega arith)))
 
 pub returns : goal.returns
 unfolding sizes_refusal
 returns c =
-    sym (or-else-passed _ _ _ c.judge_table-number.ensures c.if-number-ne0.false ∙ rw (le-leb _ _ c.if-most-k.false, le-leb _ _ c.if-n-k.false))
+    sym (or-else-passed _ _ _ c.judge_table-number.ensures (omega arith) ∙ rw (le-leb c.args.k c.args.most (omega arith), le-leb c.args.k c.args.n (omega arith)))
