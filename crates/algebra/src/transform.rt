@@ -3,94 +3,66 @@
 // transform moves every point by w and then joins each byte with those inside it, by one half step for each input; the backward one joins
 // first. From one polarity to another the inputs in which the two differ are turned over, by one half step for each.
 ghost use Rattle.std.specs.Prelude.{◌≡◌, ℕ, suc, ◌+◌, ◌*◌, ◌%◌, ◌^◌, ◌<◌, ◌≤◌, length};
+ghost use Rattle.std.specs.Int.{from_bool};
 ghost use Rattle.std.specs.Int.Bits.{bit_xor};
 ghost use Rattle.numbers.specs.Bits.{bit};
 ghost use Rattle.numbers.specs.Bytes.{at, tabulate};
 ghost use Rattle.algebra.specs.Transform.{fits, coefficient_bytes, changed_bytes, value_bytes};
-ghost use Rattle.algebra.specs.Inner.Steps.{half_step, turned_where, all_steps, RunJoined, Apart};
+ghost use Rattle.algebra.specs.Inner.Steps.{half_step, turned_where, all_steps, RunJoined, RunRoom};
 ghost use Rattle.algebra.specs.Terms.{value};
 
 use numbers::limits::Limits;
 use numbers::places::padded;
 
-// Joins each of the `size` bytes from `to` on with the byte as far from `from`.
-fn join_bytes(to: usize, from: usize, size: usize, bytes: &mut [u8])
-    requires { (to + size ≤ length bytes.old) × (from + size ≤ length bytes.old) × Apart to from size }
-    ensures { RunJoined to from size bytes.old bytes.new }
+// Joins each byte of the run `to` with the byte as far into the run `from`; a run is 2^SHIFT bytes. Two runs share no byte unless they are one,
+// so the compiler makes one word of a run of eight.
+fn join_run<const SHIFT: usize>(to: usize, from: usize, bytes: &mut [u8])
+    requires { (SHIFT < 4) × RunRoom (to * 2 ^ SHIFT) (from * 2 ^ SHIFT) (2 ^ SHIFT) (length bytes.old) }
+    ensures { RunJoined (to * 2 ^ SHIFT) (from * 2 ^ SHIFT) (2 ^ SHIFT) bytes.old bytes.new }
 {
-    let mut q: usize = 0;
-    while q < size {
-        bytes[to + q] = bytes[to + q] ^ bytes[from + q];
-        q += 1;
+    for q in 0..1 << SHIFT {
+        bytes[(to << SHIFT) + q] ^= bytes[(from << SHIFT) + q];
     }
 }
 
-// Joins the eight bytes from `to` * 8 on with those from `from` * 8 on. Two such runs share no byte unless they are one, so the compiler
-// makes one word of each.
-fn join_eight(to: usize, from: usize, bytes: &mut [u8])
-    requires { (to * 8 + 8 ≤ length bytes.old) × (from * 8 + 8 ≤ length bytes.old) × Apart (to * 8) (from * 8) 8 }
-    ensures { RunJoined (to * 8) (from * 8) 8 bytes.old bytes.new }
+// Joins each of the `count` runs from the run `to` on with the run as far from `from`.
+fn join_runs<const SHIFT: usize>(to: usize, from: usize, count: usize, bytes: &mut [u8])
+    requires { (SHIFT < 4) × RunRoom (to * 2 ^ SHIFT) (from * 2 ^ SHIFT) (count * 2 ^ SHIFT) (length bytes.old) }
+    ensures { RunJoined (to * 2 ^ SHIFT) (from * 2 ^ SHIFT) (count * 2 ^ SHIFT) bytes.old bytes.new }
 {
-    let mut q: usize = 0;
-    while q < 8 {
-        bytes[to * 8 + q] = bytes[to * 8 + q] ^ bytes[from * 8 + q];
-        q += 1;
+    for q in 0..count {
+        join_run::<SHIFT>(to + q, from + q, bytes);
     }
 }
 
-// Joins each of the `count` runs of eight bytes from `to` * 8 on with the run as far from `from` * 8.
-fn join_eights(to: usize, from: usize, count: usize, bytes: &mut [u8])
-    requires { (to * 8 + count * 8 ≤ length bytes.old) × (from * 8 + count * 8 ≤ length bytes.old) × Apart (to * 8) (from * 8) (count * 8) }
-    ensures { RunJoined (to * 8) (from * 8) (count * 8) bytes.old bytes.new }
-{
-    let mut q: usize = 0;
-    while q < count {
-        join_eight(to + q, from + q, bytes);
-        q += 1;
-    }
-}
-
-// The half step for input s, which is below 3, byte by byte.
-fn half_step_bytes(with: usize, s: usize, bytes: &mut [u8])
-    requires { (with < 2) × (s < 3) × (length bytes.old % 2 ^ suc s ≡ 0) }
-    ensures { bytes.new ≡ tabulate (length bytes.old) (half_step with s (at bytes.old)) }
+// The half step for input s + SHIFT, run by run.
+fn half_step_runs<const SHIFT: usize>(with: bool, s: usize, bytes: &mut [u8])
+    requires { (SHIFT < 4) × (s + SHIFT < 16) × (length bytes.old % 2 ^ suc (s + SHIFT) ≡ 0) }
+    ensures { bytes.new ≡ tabulate (length bytes.old) (half_step (from_bool with) (s + SHIFT) (at bytes.old)) }
 {
     let size: usize = 1 << s;
-    let to = with << s;
-    let from = (1 - with) << s;
+    let to = usize::from(with) << s;
+    let from = usize::from(!with) << s;
+    let count = bytes.len() >> SHIFT;
     let mut base = 0;
-    while base < bytes.len() {
-        join_bytes(base + to, base + from, size, bytes);
-        base = base + size + size;
-    }
-}
-
-// The half step for input s + 3, eight bytes at a time.
-fn half_step_eights(with: usize, s: usize, bytes: &mut [u8])
-    requires { (with < 2) × (s < 13) × (length bytes.old % 2 ^ (s + 4) ≡ 0) }
-    ensures { bytes.new ≡ tabulate (length bytes.old) (half_step with (s + 3) (at bytes.old)) }
-{
-    let size: usize = 1 << s;
-    let to = with << s;
-    let from = (1 - with) << s;
-    let count = bytes.len() >> 3;
-    let mut base = 0;
+    // a `for` over `step_by` takes 1.15 times as long, one that counts the pairs 1.4 times
     while base < count {
-        join_eights(base + to, base + from, size, bytes);
-        base = base + size + size;
+        join_runs::<SHIFT>(base + to, base + from, size, bytes);
+        base += 2 * size;
     }
 }
 
-// The half step for input s: each byte whose place has the value `with` there takes up the one at the place with the other value.
-fn half_step(with: usize, s: usize, bytes: &mut [u8])
-    requires { (with < 2) × (s < 16) × (length bytes.old % 2 ^ suc s ≡ 0) }
-    ensures { bytes.new ≡ tabulate (length bytes.old) (half_step with s (at bytes.old)) }
+// The half step for input s: each byte whose place has the value `with` there takes up the one at the place with the other value. Byte by byte
+// for the three lowest inputs, eight bytes at a time for the others.
+fn half_step(with: bool, s: usize, bytes: &mut [u8])
+    requires { (s < 16) × (length bytes.old % 2 ^ suc s ≡ 0) }
+    ensures { bytes.new ≡ tabulate (length bytes.old) (half_step (from_bool with) s (at bytes.old)) }
 {
     if s < 3 {
-        half_step_bytes(with, s, bytes);
-        return;
+        half_step_runs::<0>(with, s, bytes);
+    } else {
+        half_step_runs::<3>(with, s - 3, bytes);
     }
-    half_step_eights(with, s - 3, bytes);
 }
 
 // Joins each byte with those inside it, in every function of n inputs that stands side by side in the bytes: the half step for each input,
@@ -99,33 +71,21 @@ fn join_inside(low: usize, n: usize, bytes: &mut [u8])
     requires { (low ≤ 8) × (n ≤ 8) × (length bytes.old % 2 ^ (low + n) ≡ 0) }
     ensures { bytes.new ≡ tabulate (length bytes.old) (all_steps (λ s. half_step 1 (low + s)) n (at bytes.old)) }
 {
-    let mut s = 0;
-    while s < n {
-        half_step(1, low + s, bytes);
-        s += 1;
+    for s in 0..n {
+        half_step(true, low + s, bytes);
     }
-}
-
-// Turns the input s of the polarity over where the digit is 1, and leaves the bytes as they are where it is 0.
-fn turn_where(digit: usize, s: usize, bytes: &mut [u8])
-    requires { (s < 16) × (length bytes.old % 2 ^ suc s ≡ 0) }
-    ensures { bytes.new ≡ tabulate (length bytes.old) (turned_where digit s (at bytes.old)) }
-{
-    if digit == 0 {
-        return;
-    }
-    half_step(0, s, bytes);
 }
 
 // Turns over the inputs that are bits of `changed`, lowest first.
 fn turn_inputs(low: usize, n: usize, changed: usize, bytes: &mut [u8])
     requires { (low ≤ 8) × (n ≤ 8) × (length bytes.old % 2 ^ (low + n) ≡ 0) }
-    ensures { bytes.new ≡ tabulate (length bytes.old) (all_steps (λ s. turned_where (bit s changed) (low + s)) n (at bytes.old)) }
+    ensures { bytes.new ≡ tabulate (length bytes.old) (all_steps (λ i. turned_where (bit i changed) (low + i)) n (at bytes.old)) }
 {
-    let mut s: usize = 0;
-    while s < n {
-        turn_where((changed >> s) & 1, low + s, bytes);
-        s += 1;
+    for i in 0..n {
+        let turned = (changed >> i) & 1 != 0;
+        if turned {
+            half_step(false, low + i, bytes);
+        }
     }
 }
 
@@ -134,32 +94,17 @@ fn move_points(w: usize, given: &[u8], moved: &mut [u8])
     requires { (q : ℕ) → q < length moved.old → bit_xor q w < length given.now }
     ensures { moved.new ≡ tabulate (length moved.old) (λ q. at given.now (bit_xor q w)) }
 {
-    let mut q = 0;
-    while q < moved.len() {
-        moved[q] = given[q ^ w];
-        q += 1;
+    for (q, byte) in moved.iter_mut().enumerate() {
+        *byte = given[q ^ w];
     }
 }
 
 // Whether low and n are at most 8, w is a polarity of n inputs, and the two lengths are 2^(low + n).
+#[tactic(auto, using(std::proofs::lemmas::Bool::Decides::nat_tests, numbers::proofs::Shifts::one_shifted), unfolding(crate::specs::Transform::fits))]
 fn lengths_fit(low: usize, n: usize, w: usize, given: usize, lent: usize) -> bool
     ensures { result ≡ fits low n w given lent }
 {
-    if 8 < low {
-        return false;
-    }
-    if Limits::INPUTS < n {
-        return false;
-    }
-    let size: usize = 1 << n;
-    if size <= w {
-        return false;
-    }
-    let all: usize = size << low;
-    if given != all {
-        return false;
-    }
-    lent == all
+    low <= 8 && n <= Limits::INPUTS && w < 1 << n && given == 1 << (low + n) && lent == given
 }
 
 // The forward transform, total: fills `coefficients` with the coefficients under w of each of the 2^low functions of n inputs that stand
@@ -178,11 +123,8 @@ pub fn coefficients_into(low: usize, n: usize, w: usize, tables: &[u8], coeffici
 pub fn change_polarity(low: usize, n: usize, v: usize, w: usize, bytes: &mut [u8])
     ensures { bytes.new ≡ changed_bytes low n v w bytes.old }
 {
-    if lengths_fit(low, n, v, bytes.len(), bytes.len()) {
-        let size: usize = 1 << n;
-        if w < size {
-            turn_inputs(low, n, v ^ w, bytes);
-        }
+    if lengths_fit(low, n, v, bytes.len(), bytes.len()) && w < 1 << n {
+        turn_inputs(low, n, v ^ w, bytes);
     }
 }
 

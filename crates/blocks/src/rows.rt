@@ -13,25 +13,14 @@ use expansions::kinds::{Class, apart};
 // The rows that there is room for: two for each of the 256 bytes that stand for a function.
 pub const ROWS: usize = 512;
 
-// A byte as a word.
-fn wide(x: u8) -> u64
-    ensures { (result ≡ x) × (result < 256) }
-{
-    x as u64
-}
-
 // The eight entries from `start` on: the entry at start + q is byte q.
 fn row_at(entries: &[u8], start: usize) -> u64
-    requires { (start + 8 ≤ length entries.now) × (start ≤ 2040) × ((q : ℕ) → q < 8 → at entries.now (start + q) < 256) }
+    requires { start + 8 ≤ length entries.now }
     ensures { result ≡ word 8 (λ q. at entries.now (start + q)) }
 {
-    let mut word: u64 = 0;
-    let mut q: usize = 0;
-    while q < 8 {
-        word = word + (wide(entries[start + q]) << (8 * q));
-        q += 1;
-    }
-    word
+    let mut row = [0u8; 8];
+    row.copy_from_slice(&entries[start..start + 8]);
+    u64::from_le_bytes(row)
 }
 
 // The rows of all 256 functions of three inputs, under the eight polarities.
@@ -40,10 +29,8 @@ fn block_rows() -> [u64; ROWS]
 {
     let entries = block_table();
     let mut all = [0u64; ROWS];
-    let mut g: usize = 0;
-    while g < 256 {
+    for g in 0..256 {
         all[g] = row_at(&entries, g * 8);
-        g += 1;
     }
     all
 }
@@ -55,10 +42,8 @@ fn own_rows() -> [u64; ROWS]
 {
     let entries = own_table();
     let mut all = [0u64; ROWS];
-    let mut y: usize = 0;
-    while y < ROWS {
-        all[y] = row_at(&entries, (y & 15) * 16 + (y >> 8) * 8);
-        y += 1;
+    for (y, row) in all.iter_mut().enumerate() {
+        *row = row_at(&entries, (y & 15) * 16 + (y >> 8) * 8);
     }
     all
 }
@@ -68,7 +53,8 @@ pub fn rows_of(class: Class, k: usize) -> [u64; ROWS]
     ensures { Rows class k result }
 {
     if apart(class, k) {
-        return own_rows();
+        own_rows()
+    } else {
+        block_rows()
     }
-    block_rows()
 }

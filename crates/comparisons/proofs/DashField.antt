@@ -1,7 +1,7 @@
 -- W-208 of texts and their listings (`dash-field`). A text is compiled by what it means, and that is the same with `-` and with the field that `-` means;
 -- the listing of a class has the characters of its field k on its first line. A table costs no more with what `-` means now than with `1`, which it meant
 -- before (`dash-no-dearer`).
-use mathlib.Core.Bool.{Bool, true, false, cond}
+use mathlib.Core.Bool.{Bool, true, false, cond, false≢true}
 use mathlib.Core.List.{List}
 use mathlib.Core.Path.{◌≡◌, refl, sym, ap, ◌∙◌}
 use Prim.Native.Nat.{ℕ, ◌≤◌, ◌<◌}
@@ -9,6 +9,7 @@ use native.Mathlib.Omega.{arith}
 use borrow.Author.Tests.{eqb-false}
 use lib.Dec.{eqb}
 use lib.ListN.{length, take}
+use Rattle.std.specs.Prelude.{Ok, is_ok}
 use Rattle.expansions.specs.declared.families.Family.{Family}
 use Rattle.expansions.specs.declared.kinds.Class.TheVariants.{Block, Free}
 use Rattle.expansions.specs.declared.kinds.Kind.TheVariants.{Mixed}
@@ -26,7 +27,6 @@ use Rattle.table_texts.specs.TableTexts.{kind_field, dash_characters, design_lin
 use Rattle.table_texts.proofs.Acceptance.{dash_design, dash-written-out}
 use Rattle.table_texts.proofs.DesignLine.{kind-dash, dash-characters}
 use Rattle.table_texts.proofs.Exactness.{first-given}
-use Rattle.text.specs.declared.compile.Compiled.TheVariants.{Written}
 use Rattle.text.specs.Compile.{Compile}
 use Rattle.text.specs.Inner.Compiled.{answer_listing, compiled, buffer_after}
 use Rattle.text.proofs.compile.Listings.{written-listing}
@@ -38,7 +38,7 @@ module _ (d : Design) (rest : List ℕ) (hn : d.n < 10) (hm : d.m < 10) where
   unfolding answer_listing dash_kind kind_field
   answer-field t = listing-field _ d.family d.n d.m _ _ ∙ dash-characters d.n
 
-  dash-shown : (before after : List ℕ) (count : ℕ) → Compile (dashed d rest) before after (Written count)
+  dash-shown : (before after : List ℕ) (count : ℕ) → Compile (dashed d rest) before after (Ok count)
       → shown_field (take count after) ≡ dash_characters d.n
   unfolding compiled design_line
   dash-shown before after count h = go (reading (dashed d rest)) refl where
@@ -49,9 +49,7 @@ module _ (d : Design) (rest : List ℕ) (hn : d.n < 10) (hm : d.m < 10) where
         written-listing y t before after count (h.answer ∙ ap (λ (x : Reading). compiled x (length before)) e)
         (h.bytes ∙ ap (λ (x : Reading). buffer_after x before) e) in
         ap shown_field (listed ∙ ap (λ (z : Design). answer_listing z t) (sym same)) ∙ answer-field t
-    go (refused number line) e =
-        let none = h.answer ∙ ap (λ (x : Reading). compiled x (length before)) e in
-        let z : ◌≡◌ {A = ℕ} 0 1 = cc in absurd (omega arith)
+    go (refused why line) e = absurd (false≢true (ap is_ok (sym (h.answer ∙ ap (λ (x : Reading). compiled x (length before)) e))))
 
   pub dash-field : DashField d rest
   dash-field =

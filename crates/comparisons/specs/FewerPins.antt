@@ -1,6 +1,6 @@
 -- Document 02, W-206, "Fewer pins, no dearer", of table texts and their listings: "for any accepted table and any non-empty choice of its outputs, the
 -- least cost of the chosen outputs, at the same k and family, is at most the whole's."
-use Rattle.std.specs.Prelude.{List, ◌≡◌, ℕ, take}
+use Rattle.std.specs.Prelude.{List, ◌≡◌, ℕ, take, Ok}
 use Rattle.numbers.specs.Bytes.{at}
 use Rattle.expansions.specs.declared.families.Family.{Family}
 use Rattle.expansions.specs.Rules.{NoDearer}
@@ -10,7 +10,6 @@ use Rattle.listings.specs.Meaning.{stated_products, stated_literals}
 use Rattle.table_texts.specs.declared.sizes.Design.{Design}
 use Rattle.table_texts.specs.Accepted.{Accepted}
 use Rattle.table_texts.specs.Inner.Reading.{given, reading}
-use Rattle.text.specs.declared.compile.Compiled.TheVariants.{Written}
 use Rattle.text.specs.Compile.{Compile}
 use Rattle.text.specs.Print.{Print}
 use Rattle.comparisons.specs.Choices.{chosen_design, chosen_text}
@@ -41,7 +40,7 @@ pub record FewerPins (text : List ℕ) (d : Design) (t : List ℕ) (s : ℕ) : T
   -- and whatever text means them: the listing that the text call writes for it costs no more than the one that it writes for the whole, and likewise
   -- those that the program prints
   pub written : (fewer : List ℕ) → MeansChosen fewer d t s → (before after before' after' : List ℕ) (count count' : ℕ)
-      → Compile text before after (Written count) → Compile fewer before' after' (Written count')
+      → Compile text before after (Ok count) → Compile fewer before' after' (Ok count')
       → ListedNoDearer d.family (take count' after') (take count after)
   pub printed : (fewer : List ℕ) → MeansChosen fewer d t s → (held held' : List ℕ) (count count' : ℕ) → Print text held count → Print fewer held' count'
       → ListedNoDearer d.family (take count' held') (take count held)

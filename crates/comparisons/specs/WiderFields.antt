@@ -1,6 +1,6 @@
 -- Document 02, W-207, of table texts and their listings: "for tables with n of 2 or more `f2` never costs more than `f1`, nor `f1` more than `f0`." And
 -- the listings of `f0` and `f1`, which are those of `0` and `1` with another field.
-use Rattle.std.specs.Prelude.{List, ◌≡◌, ℕ, suc, ◌≤◌, ◌<◌, take}
+use Rattle.std.specs.Prelude.{List, ◌≡◌, ℕ, suc, ◌≤◌, ◌<◌, take, Ok}
 use Rattle.numbers.specs.Bytes.{at}
 use Rattle.expansions.specs.declared.families.Family.{Family}
 use Rattle.expansions.specs.declared.kinds.Class.TheVariants.{Block, Free}
@@ -12,7 +12,6 @@ use Rattle.listings.specs.Listing.{fields_of, listing_with}
 use Rattle.table_texts.specs.declared.sizes.Design.{Design}
 use Rattle.table_texts.specs.Inner.Reading.{given, reading}
 use Rattle.table_texts.specs.TableTexts.{table_text}
-use Rattle.text.specs.declared.compile.Compiled.TheVariants.{Written}
 use Rattle.text.specs.Compile.{Compile}
 use Rattle.text.specs.Inner.Compiled.{answer_listing}
 use Rattle.text.specs.Print.{Print}
@@ -31,7 +30,7 @@ pub record WiderFields (n m : ℕ) (family : Family) (t : List ℕ) : Type 0 whe
   pub next : (k : ℕ) (text : List ℕ) → reading text ≡ given (free_design n m k family) t → suc k ≤ 2 → suc k ≤ n
       → reading (table_text (free_design n m (suc k) family) t) ≡ given (free_design n m (suc k) family) t
   pub written : (k : ℕ) (text wider : List ℕ) → reading text ≡ given (free_design n m k family) t → reading wider ≡ given (free_design n m (suc k) family) t
-      → (before after before' after' : List ℕ) (count count' : ℕ) → Compile text before after (Written count) → Compile wider before' after' (Written count')
+      → (before after before' after' : List ℕ) (count count' : ℕ) → Compile text before after (Ok count) → Compile wider before' after' (Ok count')
       → ListedNoDearer family (take count' after') (take count after)
   pub printed : (k : ℕ) (text wider : List ℕ) → reading text ≡ given (free_design n m k family) t → reading wider ≡ given (free_design n m (suc k) family) t
       → (held held' : List ℕ) (count count' : ℕ) → Print text held count → Print wider held' count'

@@ -4,6 +4,7 @@
 -- statement is that they are equal, at every row (proofs/Designs, `designs-hold`).
 use Rattle.std.specs.Prelude.{List, [], ◌∷◌, ◌++◌, ◌≡◌, ℕ, zero, suc, ◌^◌, set, replicate}
 use Prim.Native.String.{String}
+use Rattle.numbers.specs.Refusals.{number_of}
 use Rattle.numbers.specs.Bytes.{at, tabulate}
 use Rattle.algebra.specs.Coefficients.{coefficient}
 use Rattle.expansions.specs.Costs.{products, literals}
@@ -97,7 +98,7 @@ refusal number line = number ∷ line ∷ []
 -- what a text means, in numbers: two under a refusal, and more where it is accepted
 abbrev pub meaning : Reading → List ℕ
 meaning (given design table) = accepted design.family design.n design.m design.kind table
-meaning (refused number line) = refusal number line
+meaning (refused why line) = refusal (number_of why) line
 
 -- the numbers that the definitions give
 unfoldable pub computed : Asked → List ℕ

@@ -1,24 +1,24 @@
 // The part families and the rules by which they charge, in numbers: what a product weighs, and how products and literals are had back from a sum of
 // weights. Document 02, W-203: "Parts of family two are priced by area: 4 × products + literals."
-ghost use Rattle.std.specs.Prelude.{◌≡◌, ◌-◌};
+ghost use Rattle.std.specs.Prelude.{◌≡◌};
 ghost use Rattle.expansions.specs.Rules.{rule_of};
 
 // The family that a table is for: the first word of a table text is `table` for family one and `table2` for family two.
-#[derive(Clone, Copy)]
+#[derive(Clone, Copy, Debug, PartialEq, Eq)]
 pub enum Family {
     One,
     Two,
 }
 
 // What a product weighs without its literals, and what each literal of it adds.
-#[derive(Clone, Copy)]
+#[derive(Clone, Copy, Debug, PartialEq, Eq)]
 pub struct Weights {
     pub product: u32,
     pub literal: u32,
 }
 
 // Products and literals.
-#[derive(Clone, Copy)]
+#[derive(Clone, Copy, Debug, PartialEq, Eq)]
 pub struct Counts {
     pub products: usize,
     pub literals: usize,
@@ -41,13 +41,6 @@ pub fn weights_of(family: Family) -> Weights
     }
 }
 
-// The difference, and 0 where b is above a.
-fn less(a: u32, b: u32) -> u32
-    ensures { result ≡ a - b }
-{
-    if a < b { 0 } else { a - b }
-}
-
 // The products and the literals whose weights, by a family's rule, have this sum. The quotient by 4096 is a shift by 12 and that by 512 one by 9; the
 // remainders are masks.
 pub fn counts_in(family: Family, sum: u32) -> Counts
@@ -60,7 +53,7 @@ pub fn counts_in(family: Family, sum: u32) -> Counts
         },
         Family::Two => Counts {
             products: (sum & 511) as usize,
-            literals: less(sum >> 9, 4 * (sum & 511)) as usize,
+            literals: (sum >> 9).saturating_sub(4 * (sum & 511)) as usize,
         },
     }
 }

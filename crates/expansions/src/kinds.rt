@@ -6,14 +6,14 @@ ghost use Rattle.expansions.specs.Classes.{apart, most_mixed};
 use numbers::limits::Limits;
 
 // What the literals of the mixed inputs follow: in document 01's class one polarity for all terms of a block, in the free class the term's own.
-#[derive(Clone, Copy)]
+#[derive(Clone, Copy, Debug, PartialEq, Eq)]
 pub enum Class {
     Block,
     Free,
 }
 
 // What the field k of a table text selects: a class with k mixed inputs, or the Kronecker expansions.
-#[derive(Clone, Copy)]
+#[derive(Clone, Copy, Debug, PartialEq, Eq)]
 pub enum Kind {
     Mixed(Class, usize),
     Kronecker,

@@ -19,7 +19,9 @@ use Rattle.numbers.proofs.Tests.{both_left, both_right}
 use Rattle.listings.specs.Listing.{descending, cube_byte, cube}
 use Rattle.listings.proofs.Characters.{length-cube, descending-ext}
 use Rattle.listings.proofs.Cubes.{character-literal}
-use Rattle.fields.specs.declared.values.Cube.TheVariants.{Is, Wrong}
+use Rattle.std.specs.Prelude.{Some, None}
+use Rattle.fields.specs.declared.values.Cube.{Cube}
+use Rattle.fields.proofs.Numbers.{under-test}
 use Rattle.fields.specs.Cubes.{is_character, present_in, complemented_in, cube_characters, term_shown, complement_shown, cube_said}
 
 -- ---- one character of the cube of a term
@@ -76,7 +78,7 @@ cube-characters zero t w = refl
 cube-characters (suc n) t w = rw (byte-character (bit n t) (bit n w)) (cube-characters n t w)
 
 -- a cube as it is written is read back
-pub cube-written : (n t w : ℕ) → t < 2 ^ n → cube_said n (cube n t w) ≡ Is t (bit_and t w)
+pub cube-written : (n t w : ℕ) → t < 2 ^ n → cube_said n (cube n t w) ≡ Some (record { term = t; complemented = bit_and t w })
 unfolding cube_said
 cube-written n t w h =
     rw (length-cube n t w, eq-eqb n n refl, cube-characters n t w, term-cube n t w h, complement-cube n t w h)
@@ -158,18 +160,11 @@ pub record CubeRead (n : ℕ) (f : List ℕ) (t c : ℕ) : Type 0 where
   pub complemented : c < 2 ^ n
   pub within : T (inside c t)
 
-pub cube-said : (n : ℕ) (f : List ℕ) (t c : ℕ) → cube_said n f ≡ Is t c → CubeRead n f t c
+pub cube-said : (n : ℕ) (f : List ℕ) (x : Cube) → cube_said n f ≡ Some x → CubeRead n f x.term x.complemented
 unfolding cube_said
-cube-said n f t c = go (eqb (length f) n) (cube_characters f) refl refl where
-  wrong : Wrong ≡ Is t c → ⊥
-  wrong e = let z : ◌≡◌ {A = ℕ} 0 1 = cc in omega arith
-
-  go : (p q : Bool) → eqb (length f) n ≡ p → cube_characters f ≡ q → cond (p && q) (Is (term_shown f) (complement_shown f)) Wrong ≡ Is t c → CubeRead n f t c
-  go true true e h g =
-      let long : length f ≡ n = eqb-true (length f) n e in
-      let same-term : term_shown f ≡ t = cc in
-      let same-complement : complement_shown f ≡ c = cc in
-      rw (← long, ← same-term, ← same-complement)
-      (record { characters = sym (cube-read f h); term = term-below f h; complemented = complement-below f h; within = complement-within f h })
-  go true false e h g = absurd (wrong g)
-  go false q e h g = absurd (wrong g)
+cube-said n f x e =
+    let passes = under-test (eqb (length f) n && cube_characters f) (Some (record { term = term_shown f; complemented = complement_shown f })) x e in
+    let long : length f ≡ n = eqb-true (length f) n (both_left (eqb (length f) n) (cube_characters f) passes.0) in
+    let all : cube_characters f ≡ true = both_right (eqb (length f) n) (cube_characters f) passes.0 in
+    let shown : record { term = term_shown f; complemented = complement_shown f } ≡ x = cc in
+    rw (← long, ← shown) (record { characters = sym (cube-read f all); term = term-below f all; complemented = complement-below f all; within = complement-within f all })

@@ -15,73 +15,67 @@ use Rattle.expansions.specs.declared.kinds.Class.TheVariants.{Block, Free}
 use Rattle.listings.specs.Parts.{bytes}
 use Rattle.listings.specs.Listing.{descending, digit_count, decimal, output_bytes, mixed_mark, mixed_field}
 use Rattle.listings.proofs.Cubes.{outputs-none, outputs-cons, digits-next}
-use Rattle.fields.specs.declared.values.Number.TheVariants.{Is, Wrong}
-use Rattle.fields.specs.declared.values.Number.{Number}
-use Rattle.fields.specs.declared.values.MixedRead.TheVariants as mixed
+use Rattle.std.specs.Prelude.{Option, Some, None}
+use Rattle.fields.specs.declared.values.Mixed.{Mixed}
 use Rattle.fields.specs.Fields.{and_then, digit, one_digit, with_class, mixed_said, digits_from, well_formed, number, bits, mask, outputs}
-use Rattle.fields.proofs.Numbers.{wrong-is, under-test, digit_lt, digit-byte, well_formed-le, mask_is, outputs-is}
+use Rattle.fields.proofs.Numbers.{under-test, digit_lt, digit-byte, well_formed-le, mask_is, outputs-is}
 use Rattle.fields.proofs.Digits.{ten-least, ten-below, digit_count-of}
 use Rattle.fields.proofs.Written.{decimal-one}
 
 -- ---- one digit
 
-pub one_digit-read : (f : List ℕ) (v : ℕ) → one_digit f ≡ Is v → f ≡ decimal v
+pub one_digit-read : (f : List ℕ) (v : ℕ) → one_digit f ≡ Some v → f ≡ decimal v
 unfolding one_digit
-one_digit-read [] v e = absurd (wrong-is e)
+one_digit-read [] v e = cc
 one_digit-read (b ∷ []) v e = rw (digit-byte 10 b v e) (sym (decimal-one v (digit_lt 10 b v e)))
 one_digit-read (b ∷ b' ∷ f) v e =
     let passes = under-test (eqb (suc (suc (length f))) 1) (digit 10 b) v e in
     absurd (omega (arith, eqb-true (suc (suc (length f))) 1 passes.0))
 
-pub one_digit-lt : (f : List ℕ) (v : ℕ) → one_digit f ≡ Is v → v < 10
+pub one_digit-lt : (f : List ℕ) (v : ℕ) → one_digit f ≡ Some v → v < 10
 unfolding one_digit
 one_digit-lt f v e = digit_lt 10 (get_or f 0 0) v (under-test (eqb (length f) 1) (digit 10 (get_or f 0 0)) v e).1
 
 -- ---- the field k
 
-wrong-mixed : {C : Class} {k : ℕ} → mixed.Wrong ≡ mixed.Is C k → ⊥
-wrong-mixed e = let z : ◌≡◌ {A = ℕ} 0 1 = cc in omega arith
-
 -- the digit after the mark of the class D
-class-read : (D : Class) (f : List ℕ) (C : Class) (k : ℕ) → with_class D (one_digit f) ≡ mixed.Is C k → (mixed_mark D ++ f ≡ mixed_field C k) × (k < 10)
+class-read : (D : Class) (f : List ℕ) (x : Mixed) → with_class D (one_digit f) ≡ Some x → (mixed_mark D ++ f ≡ mixed_field x.class x.k) × (x.k < 10)
 unfolding mixed_field
-class-read D f C k e = go (one_digit f) refl e where
-  go : (x : Number) → one_digit f ≡ x → with_class D x ≡ mixed.Is C k → (mixed_mark D ++ f ≡ mixed_mark C ++ decimal k) × (k < 10)
-  go (Is v) h g =
-      let class : D ≡ C = cc in
-      let value : v ≡ k = cc in
-      let said : one_digit f ≡ Is k = h ∙ ap Is value in
-      (ap₂ (λ (B : Class) (l : List ℕ). mixed_mark B ++ l) class (one_digit-read f k said), one_digit-lt f k said)
-  go Wrong h g = absurd (wrong-mixed g)
+class-read D f x e = go (one_digit f) refl e where
+  go : (o : Option ℕ) → one_digit f ≡ o → with_class D o ≡ Some x → (mixed_mark D ++ f ≡ mixed_mark x.class ++ decimal x.k) × (x.k < 10)
+  go (Some k) h g =
+      let same : record { class = D; k = k } ≡ x = cc in
+      rw (← same) (ap (λ (l : List ℕ). mixed_mark D ++ l) (one_digit-read f k h), one_digit-lt f k h)
+  go None h g = cc
 
-pub mixed-read : (f : List ℕ) (C : Class) (k : ℕ) → mixed_said f ≡ mixed.Is C k → (f ≡ mixed_field C k) × (k < 10)
+pub mixed-read : (f : List ℕ) (x : Mixed) → mixed_said f ≡ Some x → (f ≡ mixed_field x.class x.k) × (x.k < 10)
 unfolding mixed_said mixed_mark bytes
-mixed-read [] C k e = class-read Block [] C k e
-mixed-read (b ∷ f) C k e = go (eqb b 102) refl e where
-  go : (t : Bool) → eqb b 102 ≡ t → cond t (with_class Free (one_digit f)) (with_class Block (one_digit (b ∷ f))) ≡ mixed.Is C k
-      → (b ∷ f ≡ mixed_field C k) × (k < 10)
-  go true h g = let said = class-read Free f C k g in (ap (λ (x : ℕ). x ∷ f) (eqb-true b 102 h) ∙ said.0, said.1)
-  go false h g = class-read Block (b ∷ f) C k g
+mixed-read [] x e = class-read Block [] x e
+mixed-read (b ∷ f) x e = go (eqb b 102) refl e where
+  go : (t : Bool) → eqb b 102 ≡ t → cond t (with_class Free (one_digit f)) (with_class Block (one_digit (b ∷ f))) ≡ Some x
+      → (b ∷ f ≡ mixed_field x.class x.k) × (x.k < 10)
+  go true h g = let said = class-read Free f x g in (ap (λ (y : ℕ). y ∷ f) (eqb-true b 102 h) ∙ said.0, said.1)
+  go false h g = class-read Block (b ∷ f) x g
 
 -- ---- numbers
 
 -- digits after digits that say u: they are those of the number x that they say, and u is x without them
-digits_from_lem : (f : List ℕ) (u x : ℕ) → digits_from u f ≡ Is x → (f ≡ descending (length f) (λ i. 48 + x / 10 ^ i % 10)) × (x / 10 ^ length f ≡ u)
+digits_from_lem : (f : List ℕ) (u x : ℕ) → digits_from u f ≡ Some x → (f ≡ descending (length f) (λ i. 48 + x / 10 ^ i % 10)) × (x / 10 ^ length f ≡ u)
 unfolding digits_from descending
 digits_from_lem [] u x e = let same : u ≡ x = cc in (refl, div-one x ∙ sym same)
 digits_from_lem (b ∷ f) u x e = go (digit 10 b) refl (λ d. digits_from_lem f (u * 10 + d) x) e where
-  go : (d : Number) → digit 10 b ≡ d
-      → ((d : ℕ) → digits_from (u * 10 + d) f ≡ Is x → (f ≡ descending (length f) (λ i. 48 + x / 10 ^ i % 10)) × (x / 10 ^ length f ≡ u * 10 + d))
-      → and_then d Wrong (λ d. digits_from (u * 10 + d) f) ≡ Is x
+  go : (d : Option ℕ) → digit 10 b ≡ d
+      → ((d : ℕ) → digits_from (u * 10 + d) f ≡ Some x → (f ≡ descending (length f) (λ i. 48 + x / 10 ^ i % 10)) × (x / 10 ^ length f ≡ u * 10 + d))
+      → and_then d None (λ d. digits_from (u * 10 + d) f) ≡ Some x
       → (b ∷ f ≡ (48 + x / 10 ^ length f % 10) ∷ descending (length f) (λ i. 48 + x / 10 ^ i % 10)) × (x / 10 ^ suc (length f) ≡ u)
-  go (Is d) h ih g =
+  go (Some d) h ih g =
       let others = ih d g in
       let small : d < 10 = digit_lt 10 b d h in
       (ap₂ ◌∷◌ (omega (arith, digit-byte 10 b d h, others.1)) others.0, omega (arith, others.1, digits-next (length f) x))
-  go Wrong h ih g = absurd (wrong-is g)
+  go None h ih g = cc
 
 -- "no leading zero (but `0`)": the first of several digits is not 0
-first_some : (most b : ℕ) (f : List ℕ) (x : ℕ) → well_formed most (b ∷ f) ≡ true → digits_from 0 (b ∷ f) ≡ Is x → (length f ≡ 0 → ⊥) → 10 ^ length f ≤ x
+first_some : (most b : ℕ) (f : List ℕ) (x : ℕ) → well_formed most (b ∷ f) ≡ true → digits_from 0 (b ∷ f) ≡ Some x → (length f ≡ 0 → ⊥) → 10 ^ length f ≤ x
 unfolding well_formed descending
 first_some most b f x h e many =
     let said = digits_from_lem (b ∷ f) 0 x e in
@@ -92,7 +86,7 @@ first_some most b f x h e many =
     let some : 1 ≤ x / 10 ^ length f = omega arith in
     ten-least (length f) x some
 
-digits-read : (most : ℕ) (f : List ℕ) (v : ℕ) → most ≤ 4 → well_formed most f ≡ true → digits_from 0 f ≡ Is v → (f ≡ decimal v) × (v < 10 ^ length f)
+digits-read : (most : ℕ) (f : List ℕ) (v : ℕ) → most ≤ 4 → well_formed most f ≡ true → digits_from 0 f ≡ Some v → (f ≡ decimal v) × (v < 10 ^ length f)
 unfolding decimal well_formed
 digits-read most [] v few h e = absurd (false≢true h)
 digits-read most (b ∷ f) v few h e =
@@ -102,7 +96,7 @@ digits-read most (b ∷ f) v few h e =
     digit_count-of (length f) v (omega (arith, well_formed-le most (b ∷ f) h)) below (first_some most b f v h e) in
     (said.0 ∙ ap (λ (k : ℕ). descending k (λ i. 48 + v / 10 ^ i % 10)) (sym count), below)
 
-pub number_read : (most : ℕ) (f : List ℕ) (v : ℕ) → most ≤ 4 → number most f ≡ Is v → (f ≡ decimal v) × (v < 10 ^ most)
+pub number_read : (most : ℕ) (f : List ℕ) (v : ℕ) → most ≤ 4 → number most f ≡ Some v → (f ≡ decimal v) × (v < 10 ^ most)
 unfolding number
 number_read most f v few e =
     let passes = under-test (well_formed most f) (digits_from 0 f) v e in
@@ -111,22 +105,22 @@ number_read most f v few e =
 
 -- ---- masks and outputs
 
-bits-read : (f : List ℕ) (v : ℕ) → bits f ≡ Is v → f ≡ output_bytes (length f) v
+bits-read : (f : List ℕ) (v : ℕ) → bits f ≡ Some v → f ≡ output_bytes (length f) v
 unfolding bits
 bits-read [] v e = sym (outputs-none v)
 bits-read (b ∷ f) v e = go (digit 2 b) (bits f) refl refl (bits-read f) e where
-  go : (d r : Number) → digit 2 b ≡ d → bits f ≡ r → ((u : ℕ) → bits f ≡ Is u → f ≡ output_bytes (length f) u)
-      → and_then d Wrong (λ x. and_then r Wrong (λ u. Is (u * 2 + x))) ≡ Is v → b ∷ f ≡ output_bytes (suc (length f)) v
-  go (Is x) (Is u) p q ih g =
+  go : (d r : Option ℕ) → digit 2 b ≡ d → bits f ≡ r → ((u : ℕ) → bits f ≡ Some u → f ≡ output_bytes (length f) u)
+      → and_then d None (λ x. and_then r None (λ u. Some (u * 2 + x))) ≡ Some v → b ∷ f ≡ output_bytes (suc (length f)) v
+  go (Some x) (Some u) p q ih g =
       let sum : u * 2 + x ≡ v = cc in
       let low : x ≡ v % 2 = omega (arith, digit_lt 2 b x p) in
       let high : u ≡ v / 2 = omega (arith, digit_lt 2 b x p) in
       ap₂ ◌∷◌ (digit-byte 2 b x p ∙ ap (λ (y : ℕ). 48 + y) low) (ih u q ∙ ap (output_bytes (length f)) high) ∙ sym (outputs-cons (length f) v)
-  go (Is x) Wrong p q ih g = absurd (wrong-is g)
-  go Wrong r p q ih g = absurd (wrong-is g)
+  go (Some x) None p q ih g = cc
+  go None r p q ih g = cc
 
-pub mask-read : (m : ℕ) (f : List ℕ) (v : ℕ) → mask m f ≡ Is v → f ≡ output_bytes m v
+pub mask-read : (m : ℕ) (f : List ℕ) (v : ℕ) → mask m f ≡ Some v → f ≡ output_bytes m v
 mask-read m f v e = let said = mask_is m f v e in bits-read f v said.1 ∙ ap (λ (m : ℕ). output_bytes m v) said.0
 
-pub outputs-read : (m : ℕ) (f : List ℕ) (v : ℕ) → outputs m f ≡ Is v → (f ≡ output_bytes m v) × (v ≡ 0 → ⊥)
+pub outputs-read : (m : ℕ) (f : List ℕ) (v : ℕ) → outputs m f ≡ Some v → (f ≡ output_bytes m v) × (v ≡ 0 → ⊥)
 outputs-read m f v e = let said = outputs-is m f v e in (mask-read m f v said.0, said.1)

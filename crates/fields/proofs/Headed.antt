@@ -17,11 +17,8 @@ use Rattle.listings.specs.Listing.{tabbed}
 use Rattle.listings.proofs.Parts.{separated, parts-joined}
 use Rattle.listings.proofs.Joined.{Plain, AllPlain, parts-fields}
 use Rattle.listings.proofs.Words.{same-equal, same_self}
-use Rattle.fields.specs.declared.words.FamilyRead.{FamilyRead}
-use Rattle.fields.specs.declared.words.FamilyRead.TheVariants.{Is, Wrong}
-use Rattle.fields.specs.declared.values.Number.{Number}
-use Rattle.fields.specs.declared.values.Number.TheVariants as number
-use Rattle.fields.specs.declared.heading.Heading.TheVariants as heading
+use Rattle.std.specs.Prelude.{Option, Some, None}
+use Rattle.fields.specs.declared.heading.Heading.{Heading}
 use Rattle.fields.specs.Fields.{headed, family_of, heading_said}
 
 tabbed-separated : (fs : List (List ℕ)) → tabbed fs ≡ separated 9 fs
@@ -68,33 +65,26 @@ two_fields word l a b h ea eb = headed-fields 2 word l h ∙ ap₂ (λ (f g : Li
 -- ---- the family, by the first word
 
 module _ (word : Family → List ℕ) where
-  wrong-family : {x : Family} → Wrong ≡ Is x → ⊥
-  wrong-family e = let z : ◌≡◌ {A = ℕ} 0 1 = cc in omega arith
-
-  pub family-read : (count : ℕ) (l : List ℕ) (x : Family) → family_of (suc count) (word One) (word Two) l ≡ Is x
+  pub family-read : (count : ℕ) (l : List ℕ) (x : Family) → family_of (suc count) (word One) (word Two) l ≡ Some x
       → (l ≡ word x ++ tabbed (parts 9 l).others) × (length (parts 9 l).others ≡ count)
   unfolding family_of
   family-read count l x e = go (headed (suc count) (word One) l) refl (headed (suc count) (word Two) l) refl e where
     go : (a : Bool) → headed (suc count) (word One) l ≡ a → (b : Bool) → headed (suc count) (word Two) l ≡ b
-        → cond a (Is One) (cond b (Is Two) Wrong) ≡ Is x → (l ≡ word x ++ tabbed (parts 9 l).others) × (length (parts 9 l).others ≡ count)
+        → cond a (Some One) (cond b (Some Two) None) ≡ Some x → (l ≡ word x ++ tabbed (parts 9 l).others) × (length (parts 9 l).others ≡ count)
     go true h b g e = let is : One ≡ x = cc in rw (← is) (headed-read count (word One) l h)
     go false h true g e = let is : Two ≡ x = cc in rw (← is) (headed-read count (word Two) l g)
-    go false h false g e = absurd (wrong-family e)
+    go false h false g e = cc
 
   pub family-said : ((x : Family) → Plain (word x)) → same (word Two) (word One) ≡ false → (x : Family) (fs : List (List ℕ)) → AllPlain fs
-      → family_of (suc (length fs)) (word One) (word Two) (word x ++ tabbed fs) ≡ Is x
+      → family_of (suc (length fs)) (word One) (word Two) (word x ++ tabbed fs) ≡ Some x
   unfolding family_of headed fields
   family-said plain other One fs p = rw (parts-fields (word One) fs (plain One) p, eq-eqb (suc (length fs)) _ refl, same_self (word One))
   family-said plain other Two fs p = rw (parts-fields (word Two) fs (plain Two) p, eq-eqb (suc (length fs)) _ refl, other, same_self (word Two))
 
 -- ---- what stands before the field k
 
-wrong-heading : {F : Family} {a b : ℕ} → heading.Wrong ≡ heading.Is F a b → ⊥
-wrong-heading e = let z : ◌≡◌ {A = ℕ} 0 1 = cc in omega arith
-
-pub heading-fields : (x : FamilyRead) (n m : Number) (F : Family) (a b : ℕ) → heading_said x n m ≡ heading.Is F a b
-    → (x ≡ Is F) × (n ≡ number.Is a) × (m ≡ number.Is b)
-heading-fields (Is G) (number.Is p) (number.Is q) F a b e = (cc, cc, cc)
-heading-fields (Is G) (number.Is p) number.Wrong F a b e = absurd (wrong-heading e)
-heading-fields (Is G) number.Wrong m F a b e = absurd (wrong-heading e)
-heading-fields Wrong n m F a b e = absurd (wrong-heading e)
+pub heading-fields : (x : Option Family) (n m : Option ℕ) (h : Heading) → heading_said x n m ≡ Some h → (x ≡ Some h.family) × (n ≡ Some h.n) × (m ≡ Some h.m)
+heading-fields (Some F) (Some a) (Some b) h e = (cc, cc, cc)
+heading-fields (Some F) (Some a) None h e = cc
+heading-fields (Some F) None m h e = cc
+heading-fields None n m h e = cc

@@ -4,3 +4,4 @@ pub mod Written
 pub mod FieldsRead
 pub mod Cubes
 pub mod Headed
+pub mod Library

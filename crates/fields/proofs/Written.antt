@@ -16,15 +16,14 @@ use Rattle.listings.specs.Listing.{descending, digit_count, decimal, output_byte
 use Rattle.listings.proofs.Characters.{length-outputs, length-decimal, at-decimal, digit_count-in}
 use Rattle.listings.proofs.Cubes.{outputs-cons, digits-next, digit_count-bound}
 use Rattle.listings.proofs.Longest.{digit_count-one}
-use Rattle.fields.specs.declared.values.Number.TheVariants.{Is}
-use Rattle.fields.specs.declared.values.MixedRead.TheVariants as mixed
+use Rattle.std.specs.Prelude.{Some}
 use Rattle.fields.specs.Fields.{digit, one_digit, with_class, mixed_said, digits_from, well_formed, number, bits, mask, outputs}
 use Rattle.fields.proofs.Numbers.{ten-le}
 use Rattle.fields.proofs.Digits.{ten-some, digit_count-least, digit_count-le}
 
 -- ---- one digit
 
-pub digit-written : (base d : ℕ) → d < base → digit base (48 + d) ≡ Is d
+pub digit-written : (base d : ℕ) → d < base → digit base (48 + d) ≡ Some d
 unfolding digit
 digit-written base d h =
     let same : 48 + d - 48 ≡ d = omega arith in
@@ -38,13 +37,13 @@ decimal-one x h =
     let low : x / 1 % 10 ≡ x = omega arith in
     rw (digit_count-one x h, low)
 
-pub one_digit-decimal : (x : ℕ) → x < 10 → one_digit (decimal x) ≡ Is x
+pub one_digit-decimal : (x : ℕ) → x < 10 → one_digit (decimal x) ≡ Some x
 unfolding one_digit
 one_digit-decimal x h = rw (decimal-one x h) (digit-written 10 x h)
 
 -- ---- the field k
 
-pub mixed_is_said : (C : Class) (k : ℕ) → k < 10 → mixed_said (mixed_field C k) ≡ mixed.Is C k
+pub mixed_is_said : (C : Class) (k : ℕ) → k < 10 → mixed_said (mixed_field C k) ≡ Some (record { class = C; k = k })
 unfolding mixed_said mixed_field mixed_mark bytes
 mixed_is_said Block k h =
     let other : eqb (48 + k) 102 ≡ false = ne_eqb (48 + k) 102 (λ e. omega arith) in
@@ -53,13 +52,13 @@ mixed_is_said Free k h = ap (with_class Free) (one_digit-decimal k h)
 
 -- ---- numbers
 
-digits-written : (d x : ℕ) → digits_from (x / 10 ^ d) (descending d (λ i. 48 + x / 10 ^ i % 10)) ≡ Is x
+digits-written : (d x : ℕ) → digits_from (x / 10 ^ d) (descending d (λ i. 48 + x / 10 ^ i % 10)) ≡ Some x
 unfolding digits_from descending
-digits-written zero x = ap Is (div-one x)
+digits-written zero x = ap Some (div-one x)
 digits-written (suc d) x =
     rw (digit-written 10 (x / 10 ^ d % 10) (omega arith), digits-next d x) (digits-written d x)
 
-digits_decimal : (x : ℕ) → x < 10000 → digits_from 0 (decimal x) ≡ Is x
+digits_decimal : (x : ℕ) → x < 10000 → digits_from 0 (decimal x) ≡ Some x
 unfolding decimal
 digits_decimal x h = rw (div-eq_of_lt (digit_count-bound x h)) at (digits-written (digit_count x) x)
 
@@ -83,7 +82,7 @@ well_formed-decimal most x h few =
     go true e = refl
     go false e = rw (ne_eqb (at (decimal x) 0) 48 (leading-some x h (eqb-false (digit_count x) 1 e)))
 
-pub number-decimal : (most x : ℕ) → 1 ≤ most → most ≤ 4 → x < 10 ^ most → number most (decimal x) ≡ Is x
+pub number-decimal : (most x : ℕ) → 1 ≤ most → most ≤ 4 → x < 10 ^ most → number most (decimal x) ≡ Some x
 unfolding number
 number-decimal most x some few h =
     let small : x < 10000 = omega (arith, ten-le most few) in
@@ -91,17 +90,17 @@ number-decimal most x some few h =
 
 -- ---- masks and outputs
 
-bits-written : (m c : ℕ) → c < 2 ^ m → bits (output_bytes m c) ≡ Is c
+bits-written : (m c : ℕ) → c < 2 ^ m → bits (output_bytes m c) ≡ Some c
 unfolding bits output_bytes tabulate
 bits-written zero c h = let none : c ≡ 0 = omega arith in rw none
 bits-written (suc m) c h =
     let sum : c / 2 * 2 + c % 2 ≡ c = omega arith in
     ap bits (outputs-cons m c) ∙ rw (digit-written 2 (c % 2) (omega arith), bits-written m (c / 2) (omega arith), sum)
 
-pub mask-written : (m c : ℕ) → c < 2 ^ m → mask m (output_bytes m c) ≡ Is c
+pub mask-written : (m c : ℕ) → c < 2 ^ m → mask m (output_bytes m c) ≡ Some c
 unfolding mask
 mask-written m c h = rw (length-outputs m c, eq-eqb m m refl) (bits-written m c h)
 
-pub outputs-written : (m c : ℕ) → c < 2 ^ m → (c ≡ 0 → ⊥) → outputs m (output_bytes m c) ≡ Is c
+pub outputs-written : (m c : ℕ) → c < 2 ^ m → (c ≡ 0 → ⊥) → outputs m (output_bytes m c) ≡ Some c
 unfolding outputs
 outputs-written m c h some = rw (mask-written m c h, ne_eqb c 0 some)

@@ -1,8 +1,7 @@
 -- What a cube's characters show. Document 01: "The cube has n characters, leftmost xn, rightmost x1: `1` plain, `0` complemented, `-` absent"
 -- (bytes 49, 48, 45).
-use Rattle.std.specs.Prelude.{Bool, true, cond, ◌&&◌, ◌||◌, List, [], ◌∷◌, ℕ, ◌+◌, ◌*◌, ◌^◌, eqb, length}
+use Rattle.std.specs.Prelude.{Bool, true, cond, ◌&&◌, ◌||◌, List, [], ◌∷◌, ℕ, ◌+◌, ◌*◌, ◌^◌, eqb, length, Option, Some, None}
 use Rattle.fields.specs.declared.values.Cube.{Cube}
-use Rattle.fields.specs.declared.values.Cube.TheVariants.{Is, Wrong}
 
 -- ---- one character
 
@@ -19,8 +18,8 @@ unfoldable pub complemented_in : ℕ → ℕ
 complemented_in b = cond (eqb b 48) 1 0
 
 -- what one character says, as the cube of one input
-unfoldable pub character_said : ℕ → Cube
-character_said b = cond (is_character b) (Is (present_in b) (complemented_in b)) Wrong
+unfoldable pub character_said : ℕ → Option Cube
+character_said b = cond (is_character b) (Some (record { term = present_in b; complemented = complemented_in b })) None
 
 -- ---- a cube
 
@@ -40,5 +39,5 @@ complement_shown [] = 0
 complement_shown (b ∷ cube) = complemented_in b * 2 ^ length cube + complement_shown cube
 
 -- "The cube has n characters": the term and the complemented inputs that a field shows
-unfoldable pub cube_said : ℕ → List ℕ → Cube
-cube_said n f = cond (eqb (length f) n && cube_characters f) (Is (term_shown f) (complement_shown f)) Wrong
+unfoldable pub cube_said : ℕ → List ℕ → Option Cube
+cube_said n f = cond (eqb (length f) n && cube_characters f) (Some (record { term = term_shown f; complemented = complement_shown f })) None

@@ -21,15 +21,15 @@ impl Cursor {
     pub fn seek(self, text: &[u8], separator: u8) -> Cursor
         ensures { (result.at ≡ stop separator text.now self.at) × (result.line ≡ self.line) }
     {
-        let line = self.line;
-        let mut at = self.at;
-        while at < text.len() {
-            if text[at] == separator {
-                return Cursor { at, line };
-            }
-            at += 1;
+        let rest = &text[self.at.min(text.len())..]; // nothing, behind the end
+        let length = rest
+            .iter()
+            .position(|&b| b == separator)
+            .unwrap_or(rest.len());
+        Cursor {
+            at: self.at + length,
+            line: self.line,
         }
-        Cursor { at, line }
     }
 
     // Past the separator here, on the same line.

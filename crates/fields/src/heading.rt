@@ -2,29 +2,23 @@
 ghost use Rattle.std.specs.Prelude.{◌≡◌};
 ghost use Rattle.fields.specs.Fields.{heading_said};
 
-use crate::values::Number;
-use crate::words::FamilyRead;
 use expansions::families::Family;
 
 // The family, n and m of a first line.
-#[derive(Clone, Copy)]
-pub enum Heading {
-    Is { family: Family, n: usize, m: usize },
-    Wrong,
+#[derive(Clone, Copy, Debug, PartialEq, Eq)]
+pub struct Heading {
+    pub family: Family,
+    pub n: usize,
+    pub m: usize,
 }
 
 // The family, n and m, where each is read.
-pub fn heading_of(family: FamilyRead, n: Number, m: Number) -> Heading
+pub fn heading_of(family: Option<Family>, n: Option<usize>, m: Option<usize>) -> Option<Heading>
     ensures { result ≡ heading_said family n m }
 {
-    let FamilyRead::Is(family) = family else {
-        return Heading::Wrong;
-    };
-    let Number::Is(n) = n else {
-        return Heading::Wrong;
-    };
-    let Number::Is(m) = m else {
-        return Heading::Wrong;
-    };
-    Heading::Is { family, n, m }
+    Some(Heading {
+        family: family?,
+        n: n?,
+        m: m?,
+    })
 }

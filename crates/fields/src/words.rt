@@ -7,31 +7,16 @@ ghost use Rattle.fields.specs.Fields.{headed, family_of};
 use crate::parts::{part, part_count};
 use expansions::families::Family;
 
-// What the first word of a line says of the family.
-#[derive(Clone, Copy)]
-pub enum FamilyRead {
-    Is(Family),
-    Wrong,
-}
-
 // Whether a field is the given word.
+#[tactic(auto, using(crate::proofs::Library::same_pointwise))]
 pub fn same(field: &[u8], word: &[u8]) -> bool
     ensures { result ≡ same field.now word.now }
 {
-    if field.len() != word.len() {
-        return false;
-    }
-    let mut k = 0;
-    while k < field.len() {
-        if field[k] != word[k] {
-            return false;
-        }
-        k += 1;
-    }
-    true
+    field == word
 }
 
 // How many fields a line has.
+#[tactic(auto, unfolding(listings::specs::Parts::fields))]
 pub fn field_count(line: &[u8]) -> usize
     ensures { result ≡ length (fields line.now) }
 {
@@ -39,6 +24,7 @@ pub fn field_count(line: &[u8]) -> usize
 }
 
 // The field j of a line, counted from 0; empty where there is none.
+#[tactic(auto, unfolding(listings::specs::Parts::fields))]
 pub fn field(line: &[u8], j: usize) -> &[u8]
     ensures { result.now ≡ field j line.now }
 {
@@ -46,24 +32,23 @@ pub fn field(line: &[u8], j: usize) -> &[u8]
 }
 
 // Whether a line has so many fields, the first of them the given word.
+#[tactic(auto, unfolding(crate::specs::Fields::headed))]
 pub fn headed(count: usize, word: &[u8], line: &[u8]) -> bool
     ensures { result ≡ headed count word.now line.now }
 {
-    if field_count(line) != count {
-        return false;
-    }
-    same(field(line, 0), word)
+    field_count(line) == count && same(field(line, 0), word)
 }
 
 // The family of a line with so many fields, by its first word: `one` is the word of family one and `two` that of family two.
-pub fn family_of(count: usize, one: &[u8], two: &[u8], line: &[u8]) -> FamilyRead
+#[tactic(auto, unfolding(crate::specs::Fields::family_of))]
+pub fn family_of(count: usize, one: &[u8], two: &[u8], line: &[u8]) -> Option<Family>
     ensures { result ≡ family_of count one.now two.now line.now }
 {
     if headed(count, one, line) {
-        return FamilyRead::Is(Family::One);
+        Some(Family::One)
+    } else if headed(count, two, line) {
+        Some(Family::Two)
+    } else {
+        None
     }
-    if headed(count, two, line) {
-        return FamilyRead::Is(Family::Two);
-    }
-    FamilyRead::Wrong
 }

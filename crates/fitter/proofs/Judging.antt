@@ -1,45 +1,38 @@
 -- The answer on the record that was read is the answer on the listing (`record-judged`): the record's bytes are those of the rows.
 use mathlib.Core.Bool.{Bool, true, false, cond, ◌&&◌}
 use mathlib.Core.List.{List}
-use mathlib.Core.Path.{◌≡◌, refl, ap}
+use mathlib.Core.Path.{◌≡◌, refl, sym, ap, ◌∙◌}
 use Prim.Native.Nat.{ℕ, ◌-◌, ◌/◌, ◌%◌, ◌^◌, ◌≤◌}
 use native.Mathlib.Omega.{arith}
 use borrow.Author.Tests.{lt-ltb, eq-eqb}
 use lib.Pow.{pow_mono}
+use Rattle.std.specs.Prelude.{Result, Ok, Err}
+use Rattle.numbers.specs.declared.refusals.Refused.{Refused}
 use Rattle.numbers.specs.Bytes.{at, tabulate}
 use Rattle.numbers.specs.Tests.{every}
 use Rattle.numbers.proofs.Shifts.{points-le}
 use Rattle.numbers.proofs.Tables.{at-whole}
-use Rattle.expansions.specs.Least.{Best, nothing, best}
 use Rattle.expansions.specs.Members.{IsPair, shown_choice}
 use Rattle.membership.specs.Class.{legal_pair, shows_back, of_class}
 use Rattle.membership.proofs.Class.{legal-pair}
 use Rattle.membership.proofs.Shown.{shown-past}
 use Rattle.table_texts.specs.declared.sizes.Sizes.{Sizes}
 use Rattle.listing_texts.specs.declared.form.Form.{Form}
-use Rattle.listing_texts.specs.declared.read.ListingAnswer.TheVariants as answer
+use Rattle.listing_texts.specs.declared.read.ListingRead.{ListingRead}
 use Rattle.shown_rows.specs.Rows.{coefficient_in, complemented_in, shown_blocks}
 use Rattle.listing_texts.specs.Read.{ListingReading, shown, refused, listing_reading}
 use Rattle.listing_texts.specs.Record.{shown_expansion, shown_read, handed_up}
 use Rattle.listing_texts.proofs.Exactness.{listing-read}
-use Rattle.fitter.specs.declared.check.Checked.TheVariants.{NotOfClass, Refused}
-use Rattle.fitter.specs.declared.values.Difference.TheVariants.{At, Nowhere}
+use Rattle.fitter.specs.declared.check.Verdict.{Verdict}
+use Rattle.fitter.specs.declared.check.Verdict.TheVariants.{NotOfClass}
 use Rattle.fitter.specs.Differences.{inverted_value, first_difference}
 use Rattle.fitter.specs.Inner.Answer.{compared, judged}
-use Rattle.fitter.specs.Inner.Differences.{difference_of}
 use Rattle.fitter.specs.Inner.Judging.{judged_record}
 
--- ---- a search for a difference
-
-pub found_at : (b : Best) (p : ℕ) → difference_of b ≡ At p → b ≡ best p
-unfolding difference_of
-found_at nothing p e = let z : ◌≡◌ {A = ℕ} 0 1 = cc in absurd (omega arith)
-found_at (best q) p e = let same : q ≡ p = cc in ap best same
-
-pub found_nowhere : (b : Best) → difference_of b ≡ Nowhere → b ≡ nothing
-unfolding difference_of
-found_nowhere nothing e = refl
-found_nowhere (best q) e = let z : ◌≡◌ {A = ℕ} 0 1 = cc in absurd (omega arith)
+-- the verdict under a test is the answer under it
+told : (b : Bool) (x : Verdict) → ◌≡◌ {A = Result Verdict Refused} (Ok (cond b x NotOfClass)) (cond b (Ok x) (Ok NotOfClass))
+told true x = refl
+told false x = refl
 
 -- ---- the record's bytes
 
@@ -68,32 +61,36 @@ module _ (z : Sizes) (table s : List ℕ) (f : Form) (v : ℕ) (t : List ℕ) (r
       rw (lt-ltb f.mixed (2 ^ z.n) pair.mask, eq-eqb _ _ pair.size)
       (at-whole 256 choice (λ j l. shown-past z.class z.n z.k f.mixed (complemented_in t) j pair.size (omega arith)))
 
-  pub record-shown : judged_record z table (shown_read z f v t) ≡ judged z table (shown f v t)
+  pub record-shown : Ok (judged_record z table (shown_read z f v t)) ≡ judged z table (shown f v t)
   unfolding judged_record judged shown_read shown_expansion of_class
   record-shown = go (legal_pair z.n z.k f.mixed f.fixed) refl where
     go : (b : Bool) → legal_pair z.n z.k f.mixed f.fixed ≡ b
-        → cond
+        → ◌≡◌ {A = Result Verdict Refused} (Ok
+        (cond
         (b
         && every (2 ^ z.n)
         (shows_back z.class z.n z.k f.mixed f.fixed (at (shown_blocks z.class z.n z.k f.mixed (complemented_in t)))
         (at (tabulate 256 (complemented_in t))) (at (tabulate 256 (coefficient_in t)))))
         (compared (first_difference z.n (inverted_value z.n (at (tabulate 256 (complemented_in t))) (at (tabulate 256 (coefficient_in t))) v) (at table)))
-        NotOfClass
-        ≡ cond (b && every (2 ^ z.n) (shows_back z.class z.n z.k f.mixed f.fixed choice (complemented_in t) (coefficient_in t)))
-        (compared (first_difference z.n (inverted_value z.n (complemented_in t) (coefficient_in t) v) (at table)))
-        NotOfClass
-    go true h = rw (blocks-whole (legal-pair z.n z.k f.mixed f.fixed h), complements-whole, coefficients-whole)
+        NotOfClass))
+        (cond (b && every (2 ^ z.n) (shows_back z.class z.n z.k f.mixed f.fixed choice (complemented_in t) (coefficient_in t)))
+        (Ok (compared (first_difference z.n (inverted_value z.n (complemented_in t) (coefficient_in t) v) (at table))))
+        (Ok NotOfClass))
+    go true h = rw (blocks-whole (legal-pair z.n z.k f.mixed f.fixed h), complements-whole, coefficients-whole) (told (every _ _) _)
     go false h = refl
 
 -- ---- what was handed up
 
 module _ (z : Sizes) (table s : List ℕ) where
-  pub record-judged : (x : ListingReading) → listing_reading z s ≡ x → (handed_up z x).answer ≡ answer.Given → judged_record z table (handed_up z x) ≡ judged z table x
+  pub record-judged : (x : ListingReading) (read : ListingRead) → listing_reading z s ≡ x → handed_up z x ≡ Ok read
+      → Ok (judged_record z table read) ≡ judged z table x
   unfolding handed_up
-  record-judged (shown f v t) read e = record-shown z table s f v t read
-  record-judged (refused number l) read e = let none : ◌≡◌ {A = ℕ} 0 1 = cc in absurd (omega arith)
+  record-judged (shown f v t) read is e =
+      let same : shown_read z f v t ≡ read = cc in
+      ap (λ (r : ListingRead). Ok (judged_record z table r)) (sym same) ∙ record-shown z table s f v t is
+  record-judged (refused why l) read is e = cc
 
-  pub refused-judged : (x : ListingReading) (number l : ℕ) → (handed_up z x).answer ≡ answer.Refused number l → Refused number l ≡ judged z table x
-  unfolding handed_up shown_read judged
-  refused-judged (shown f v t) number l e = let none : ◌≡◌ {A = ℕ} 0 1 = cc in absurd (omega arith)
-  refused-judged (refused number' l') number l e = cc
+  pub refused-judged : (x : ListingReading) (e : Refused) → handed_up z x ≡ Err e → Err e ≡ judged z table x
+  unfolding handed_up judged
+  refused-judged (shown f v t) e h = cc
+  refused-judged (refused why l) e h = cc

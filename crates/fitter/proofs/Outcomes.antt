@@ -5,7 +5,8 @@ use mathlib.Core.List.{List}
 use mathlib.Core.Logic.{◌↔◌}
 use mathlib.Core.Path.{◌≡◌, refl, sym, ap, ◌∙◌}
 use Prim.Native.Nat.{ℕ}
-use native.Mathlib.Omega.{arith}
+use Rattle.std.specs.Prelude.{Result, Ok}
+use Rattle.numbers.specs.declared.refusals.Refused.{Refused}
 use Rattle.numbers.specs.Bytes.{at}
 use Rattle.expansions.specs.Least.{Best, nothing, best}
 use Rattle.expansions.specs.Members.{polarity, shown_choice}
@@ -20,8 +21,8 @@ use Rattle.listing_texts.specs.Listings.{term_listing}
 use Rattle.shown_rows.specs.Rows.{coefficient_in, complemented_in}
 use Rattle.listing_texts.specs.Read.{shown, listing_reading}
 use Rattle.listing_texts.proofs.Exactness.{ListingIs, listing-read}
-use Rattle.fitter.specs.declared.check.Checked.{Checked}
-use Rattle.fitter.specs.declared.check.Checked.TheVariants.{Same, Differs, NotOfClass}
+use Rattle.fitter.specs.declared.check.Verdict.{Verdict}
+use Rattle.fitter.specs.declared.check.Verdict.TheVariants.{Same, Differs, NotOfClass}
 use Rattle.fitter.specs.Differences.{inverted_value, first_difference}
 use Rattle.fitter.specs.Check.{PrintsCubes, PrintsTable, LowestDifference}
 use Rattle.fitter.specs.Inner.Answer.{compared, judged}
@@ -74,46 +75,47 @@ module _ (z : Sizes) (table s : List ℕ) (f : Form) (v : ℕ) (t : List ℕ) (r
   class-from : (w' c' : ℕ → ℕ) → PrintsCubes z s w' c' → class ≡ true
   class-from w' c' p = exactly.1 (w', c', rw (mixed, fixed) at p.0, rw cubes at p.1)
 
-  pub not-to : judged z table (shown f v t) ≡ NotOfClass → (w' c' : ℕ → ℕ) → PrintsCubes z s w' c' → ⊥
+  pub not-to : judged z table (shown f v t) ≡ Ok NotOfClass → (w' c' : ℕ → ℕ) → PrintsCubes z s w' c' → ⊥
   unfolding judged
   not-to e w' c' p = go found (rw (class-from w' c' p) at e) where
-    go : (b : Best) → compared b ≡ NotOfClass → ⊥
-    go nothing g = let z : ◌≡◌ {A = ℕ} 0 1 = cc in omega arith
-    go (best q) g = let z : ◌≡◌ {A = ℕ} 0 1 = cc in omega arith
+    go : (b : Best) → ◌≡◌ {A = Result Verdict Refused} (Ok (compared b)) (Ok NotOfClass) → ⊥
+    go nothing g = cc
+    go (best q) g = cc
 
-  pub not-from : ((w' c' : ℕ → ℕ) → PrintsCubes z s w' c' → ⊥) → judged z table (shown f v t) ≡ NotOfClass
+  pub not-from : ((w' c' : ℕ → ℕ) → PrintsCubes z s w' c' → ⊥) → judged z table (shown f v t) ≡ Ok NotOfClass
   unfolding judged
   not-from none = go class refl where
-    go : (b : Bool) → class ≡ b → cond b (compared found) NotOfClass ≡ NotOfClass
+    go : (b : Bool) → class ≡ b → ◌≡◌ {A = Result Verdict Refused} (cond b (Ok (compared found)) (Ok NotOfClass)) (Ok NotOfClass)
     go true h = let p = class-to h in absurd (none p.0 p.1 p.2)
     go false h = refl
 
   -- ---- class, then points
 
   -- the answer that is not `NotOfClass` is the one of the points
-  points : (a : Checked) → judged z table (shown f v t) ≡ a → (a ≡ NotOfClass → ⊥) → (class ≡ true) × (compared found ≡ a)
+  points : (a : Verdict) → judged z table (shown f v t) ≡ Ok a → (a ≡ NotOfClass → ⊥) → (class ≡ true) × (compared found ≡ a)
   unfolding judged
   points a e other = go class refl e where
-    go : (b : Bool) → class ≡ b → cond b (compared found) NotOfClass ≡ a → (class ≡ true) × (compared found ≡ a)
-    go true h g = (h, g)
-    go false h g = absurd (other (sym g))
+    go : (b : Bool) → class ≡ b → ◌≡◌ {A = Result Verdict Refused} (cond b (Ok (compared found)) (Ok NotOfClass)) (Ok a)
+        → (class ≡ true) × (compared found ≡ a)
+    go true h g = (h, cc)
+    go false h g = let same : a ≡ NotOfClass = cc in absurd (other same)
 
-  points-from : class ≡ true → judged z table (shown f v t) ≡ compared found
+  points-from : class ≡ true → judged z table (shown f v t) ≡ Ok (compared found)
   unfolding judged
   points-from h = rw h
 
   compared_same : (b : Best) → compared b ≡ Same → b ≡ nothing
   compared_same nothing e = refl
-  compared_same (best p) e = let z : ◌≡◌ {A = ℕ} 0 1 = cc in absurd (omega arith)
+  compared_same (best p) e = cc
 
   compared-differs : (b : Best) (p : ℕ) → compared b ≡ Differs p → b ≡ best p
-  compared-differs nothing p e = let z : ◌≡◌ {A = ℕ} 0 1 = cc in absurd (omega arith)
+  compared-differs nothing p e = cc
   compared-differs (best q) p e = let same : q ≡ p = cc in ap best same
 
-  pub same-to : judged z table (shown f v t) ≡ Same → (u : ℕ) × (w' : ℕ → ℕ) × (c' : ℕ → ℕ) × PrintsTable z table s u w' c'
+  pub same-to : judged z table (shown f v t) ≡ Ok Same → (u : ℕ) × (w' : ℕ → ℕ) × (c' : ℕ → ℕ) × PrintsTable z table s u w' c'
   unfolding term_listing listing_with
   same-to e =
-      let ends = points Same e (λ g. let z : ◌≡◌ {A = ℕ} 0 1 = cc in omega arith) in
+      let ends = points Same e (λ g. cc) in
       let none = compared_same found ends.1 in
       let x = shown_choice z.class z.n z.k f.mixed w in
       let member = class-member z.class z.n z.k f.mixed f.fixed w c ends.0 known.sized.mixed.0 cubes-shown in
@@ -130,18 +132,18 @@ module _ (z : Sizes) (table s : List ℕ) (f : Form) (v : ℕ) (t : List ℕ) (r
         },
       )
 
-  pub same_from : (u : ℕ) (w' c' : ℕ → ℕ) → PrintsTable z table s u w' c' → judged z table (shown f v t) ≡ Same
+  pub same_from : (u : ℕ) (w' c' : ℕ → ℕ) → PrintsTable z table s u w' c' → judged z table (shown f v t) ≡ Ok Same
   same_from u w' c' p =
       let printed = cubes-listed z s u (stated_mixed s) (stated_fixed s) w' c' p.lines in
       let listed = value-listed z s u (stated_mixed s) (stated_fixed s) w' c' p.lines p.mask p.outputs in
       let inside = class-from w' c' (p.in_class, sym printed) in
       points-from inside
-      ∙ ap compared (none_differ given (at table) z.n (λ q h. sym (values q) ∙ listed q ∙ p.gives q h))
+      ∙ ap (λ (b : Best). Ok (compared b)) (none_differ given (at table) z.n (λ q h. sym (values q) ∙ listed q ∙ p.gives q h))
 
-  pub differs-to : (p : ℕ) → judged z table (shown f v t) ≡ Differs p
+  pub differs-to : (p : ℕ) → judged z table (shown f v t) ≡ Ok (Differs p)
       → ((w' : ℕ → ℕ) × (c' : ℕ → ℕ) × PrintsCubes z s w' c') × LowestDifference z.n table s p
   differs-to p e =
-      let ends = points (Differs p) e (λ g. let z : ◌≡◌ {A = ℕ} 0 1 = cc in omega arith) in
+      let ends = points (Differs p) e (λ g. cc) in
       let lowest = difference-at given (at table) z.n p (compared-differs found p ends.1) in (
         class-to ends.0,
         record {
@@ -151,8 +153,9 @@ module _ (z : Sizes) (table s : List ℕ) (f : Form) (v : ℕ) (t : List ℕ) (r
         },
       )
 
-  pub differs-from : (p : ℕ) → (w' c' : ℕ → ℕ) → PrintsCubes z s w' c' → LowestDifference z.n table s p → judged z table (shown f v t) ≡ Differs p
+  pub differs-from : (p : ℕ) → (w' c' : ℕ → ℕ) → PrintsCubes z s w' c' → LowestDifference z.n table s p
+      → judged z table (shown f v t) ≡ Ok (Differs p)
   differs-from p w' c' prints lowest =
       points-from (class-from w' c' prints)
-      ∙ ap compared
+      ∙ ap (λ (b : Best). Ok (compared b))
       (lowest-differs given (at table) z.n p lowest.point (λ g. lowest.differs (values p ∙ g)) (λ q h. sym (values q) ∙ lowest.before q h))

@@ -4,6 +4,7 @@ use mathlib.Core.List.{List}
 use mathlib.Core.Path.{◌≡◌, refl, ap, ◌∙◌}
 use Prim.Native.Nat.{ℕ, ◌^◌, ◌≤◌, ◌<◌}
 use native.Mathlib.Omega.{arith}
+use Rattle.std.specs.Prelude.{Ok}
 use Rattle.numbers.specs.Bytes.{at}
 use Rattle.numbers.specs.Refusals.{Sized}
 use Rattle.numbers.proofs.Shifts.{points-le}
@@ -23,7 +24,7 @@ use Rattle.listing_texts.specs.Read.{listing_reading}
 use Rattle.listing_texts.specs.ReadBack.{MemberRecord, member_listing, term_polarities}
 use Rattle.listing_texts.proofs.ReadBack.{listing-terms, answer-record}
 use Rattle.text.specs.Inner.Compiled.{answer_listing}
-use Rattle.fitter.specs.declared.check.Checked.TheVariants.{Same}
+use Rattle.fitter.specs.declared.check.Verdict.TheVariants.{Same}
 use Rattle.fitter.specs.Inner.Answer.{judged, judged_design, checked}
 use Rattle.fitter.proofs.Bytes.{mixed-stated, fixed-stated}
 use Rattle.fitter.proofs.Answers.{answers-words}
@@ -49,7 +50,7 @@ module _ (z : Sizes) (table : List ℕ) (e : Expansion) (sized : Sized z.n z.m (
       fixed-stated z s e.inverted e.mixed e.fixed w (at e.coefficients) sized (omega (arith, few, r.member.pair.mask)) (omega (arith, few, r.member.pair.fixed))
       (listing-terms z e sized r)
 
-  pub member-same : judged z table (listing_reading z s) ≡ Same
+  pub member-same : judged z table (listing_reading z s) ≡ Ok Same
   member-same =
       (answers-words z table s sized (judged z table (listing_reading z s)) refl).same.1 (
         e.inverted,
@@ -65,7 +66,7 @@ module _ (z : Sizes) (table : List ℕ) (e : Expansion) (sized : Sized z.n z.m (
       )
 
 pub own_same : (text : List ℕ) (z : Sizes) (table : List ℕ) → reading text ≡ given (mixed_design z) table
-    → checked (reading text) (answer_listing (mixed_design z) table) ≡ Same
+    → checked (reading text) (answer_listing (mixed_design z) table) ≡ Ok Same
 unfolding checked judged_design answer_listing
 own_same text z table e =
     let a = reading-accepted text (mixed_design z) table e in

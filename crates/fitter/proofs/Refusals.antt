@@ -3,14 +3,17 @@
 use mathlib.Core.Bool.{Bool, true, false, cond}
 use mathlib.Core.List.{List}
 use mathlib.Core.Logic.{◌⊎◌, ◌↔◌}
-use mathlib.Core.Path.{◌≡◌, refl, sym, ap, ap₂, ◌∙◌, subst}
+use mathlib.Core.Path.{◌≡◌, refl, sym, ap, ◌∙◌, subst}
 use Prim.Native.Nat.{ℕ, ◌+◌, ◌≤◌}
-use native.Mathlib.Omega.{arith}
 use lib.ListN.{length}
+use Rattle.std.specs.Prelude.{Result, Ok, Err}
+use Rattle.numbers.specs.declared.refusals.Refusal.{Refusal}
+use Rattle.numbers.specs.declared.refusals.Refusal.TheVariants.{BrokenListing, UnlikeListing}
+use Rattle.numbers.specs.declared.refusals.Refused.{Refused}
 use Rattle.numbers.specs.Bytes.{at}
-use Rattle.numbers.specs.Refusals.{Sized}
+use Rattle.numbers.specs.Refusals.{declined, Sized}
 use Rattle.expansions.specs.Classes.{most_mixed}
-use Rattle.expansions.specs.Least.{Best, nothing, best}
+use Rattle.expansions.specs.Least.{Best}
 use Rattle.membership.specs.Class.{of_class}
 use Rattle.table_texts.specs.declared.sizes.Sizes.{Sizes}
 use Rattle.table_texts.specs.Design.{mixed_design}
@@ -23,37 +26,27 @@ use Rattle.shown_rows.specs.Rows.{coefficient_in, complemented_in}
 use Rattle.listing_texts.specs.Read.{ListingReading, shown, refused, listing_reading}
 use Rattle.listing_texts.proofs.BesideKronecker.{other-exactly}
 use Rattle.listing_texts.proofs.FirstLines.{Told, reading-told, first-told}
-use Rattle.fitter.specs.declared.check.Checked.{Checked}
-use Rattle.fitter.specs.declared.check.Checked.TheVariants.{Same, Differs, NotOfClass, Refused}
+use Rattle.fitter.specs.declared.check.Verdict.{Verdict}
+use Rattle.fitter.specs.declared.check.Verdict.TheVariants.{NotOfClass}
 use Rattle.fitter.specs.Differences.{inverted_value, first_difference}
 use Rattle.fitter.specs.Inner.Answer.{compared, judged, judged_design, checked}
 
--- ---- the four answers differ
+-- ---- where the answer is a refusal
 
-pub refused-same : {number l : ℕ} → Refused number l ≡ Same → ⊥
-refused-same e = let z : ◌≡◌ {A = ℕ} 0 1 = cc in omega arith
-
-pub refused-not : {number l : ℕ} → Refused number l ≡ NotOfClass → ⊥
-refused-not e = let z : ◌≡◌ {A = ℕ} 0 1 = cc in omega arith
-
-pub refused-differs : {number l p : ℕ} → Refused number l ≡ Differs p → ⊥
-refused-differs e = let z : ◌≡◌ {A = ℕ} 0 1 = cc in omega arith
-
-pub not-refused : (z : Sizes) (table : List ℕ) (f : Form) (v : ℕ) (t : List ℕ) (number l : ℕ) → judged z table (shown f v t) ≡ Refused number l → ⊥
+pub not-refused : (z : Sizes) (table : List ℕ) (f : Form) (v : ℕ) (t : List ℕ) (e : Refused) → judged z table (shown f v t) ≡ Err e → ⊥
 unfolding judged
-not-refused z table f v t number l e = go (of_class z.class z.n z.k f.mixed f.fixed (complemented_in t) (coefficient_in t))
-    (first_difference z.n (inverted_value z.n (complemented_in t) (coefficient_in t) v) (at table)) e
+not-refused z table f v t e h = go (of_class z.class z.n z.k f.mixed f.fixed (complemented_in t) (coefficient_in t))
+    (first_difference z.n (inverted_value z.n (complemented_in t) (coefficient_in t) v) (at table)) h
   where
-    go : (b : Bool) (x : Best) → cond b (compared x) NotOfClass ≡ Refused number l → ⊥
-    go true nothing g = refused-same (sym g)
-    go true (best p) g = refused-differs (sym g)
-    go false x g = refused-not (sym g)
+    go : (b : Bool) (x : Best) → cond b (Ok (compared x)) (Ok NotOfClass) ≡ Err e → ⊥
+    go true x g = cc
+    go false x g = cc
 
 -- an answer that is a refusal comes from the refusal of the reading
-judged-refused : (z : Sizes) (table : List ℕ) (x : ListingReading) (number l : ℕ) → judged z table x ≡ Refused number l → x ≡ refused number l
+judged-refused : (z : Sizes) (table : List ℕ) (x : ListingReading) (e : Refused) → judged z table x ≡ Err e → x ≡ refused e.refusal e.line
 unfolding judged
-judged-refused z table (shown f v t) number l e = absurd (not-refused z table f v t number l e)
-judged-refused z table (refused a b) number l e = let same : a ≡ number = cc in let line : b ≡ l = cc in ap₂ refused same line
+judged-refused z table (shown f v t) e h = absurd (not-refused z table f v t e h)
+judged-refused z table (refused why l) e h = let same : declined why l ≡ e = cc in ap (λ (x : Refused). refused x.refusal x.line) same
 
 -- ---- beside an accepted table text
 
@@ -66,20 +59,21 @@ module _ (text s : List ℕ) (z : Sizes) (table : List ℕ) (accepted : tables.r
   unfolding checked judged_design
   answer-is = ap (λ (x : tables.Reading). checked x s) accepted
 
-  pub reading-refused : (number l : ℕ) → listing_reading z s ≡ refused number l → checked (tables.reading text) s ≡ Refused number l
+  pub reading-refused : (why : Refusal) (l : ℕ) → listing_reading z s ≡ refused why l → checked (tables.reading text) s ≡ Err (declined why l)
   unfolding judged
-  reading-refused number l e = answer-is ∙ ap (judged z table) e
+  reading-refused why l e = answer-is ∙ ap (judged z table) e
 
-  was-refused : (number l : ℕ) → checked (tables.reading text) s ≡ Refused number l → listing_reading z s ≡ refused number l
-  was-refused number l e = judged-refused z table (listing_reading z s) number l (sym answer-is ∙ e)
+  was-refused : (e : Refused) → checked (tables.reading text) s ≡ Err e → listing_reading z s ≡ refused e.refusal e.line
+  was-refused e h = judged-refused z table (listing_reading z s) e (sym answer-is ∙ h)
 
-module _ (text s : List ℕ) (r : Checked) (e : r ≡ checked (tables.reading text) s) (z : Sizes) (table : List ℕ)
+module _ (text s : List ℕ) (r : Result Verdict Refused) (e : r ≡ checked (tables.reading text) s) (z : Sizes) (table : List ℕ)
     (accepted : tables.reading text ≡ tables.given (mixed_design z) table) where
-  pub first-exactly : (r ≡ Refused 11 1) ↔ (FormListing s → ⊥)
+  pub first-exactly : (r ≡ Err (declined BrokenListing 1)) ↔ (FormListing s → ⊥)
   first-exactly = (
-    (λ h. (other-exactly s).0 ((first-told z s).0 (was-refused text s z table accepted 11 1 (sym e ∙ h)))),
-    (λ none. e ∙ reading-refused text s z table accepted 11 1 ((first-told z s).1 ((other-exactly s).1 none))),
+    (λ h. (other-exactly s).0 ((first-told z s).0 (was-refused text s z table accepted (declined BrokenListing 1) (sym e ∙ h)))),
+    (λ none. e ∙ reading-refused text s z table accepted BrokenListing 1 ((first-told z s).1 ((other-exactly s).1 none))),
   )
 
-  pub refused-numbers : (number l : ℕ) → r ≡ Refused number l → ((number ≡ 11) × (1 ≤ l) × (l ≤ 1 + length s)) ⊎ ((number ≡ 12) × (l ≡ 1))
-  refused-numbers number l h = subst (Told 1 (1 + length s)) (was-refused text s z table accepted number l (sym e ∙ h)) (reading-told z s)
+  pub refused-numbers : (x : Refused) → r ≡ Err x
+      → ((x.refusal ≡ BrokenListing) × (1 ≤ x.line) × (x.line ≤ 1 + length s)) ⊎ ((x.refusal ≡ UnlikeListing) × (x.line ≡ 1))
+  refused-numbers x h = subst (Told 1 (1 + length s)) (was-refused text s z table accepted x (sym e ∙ h)) (reading-told z s)

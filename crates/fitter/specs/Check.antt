@@ -4,7 +4,10 @@
 -- both families; a listing of the other family than its table is 12, line 1." W-205: "The fitter's check reads the line and inverts." W-207: of an `f`
 -- field, "the listing repeats that field, and the fitter judges by it". W-208: "the check resolves a dash like the compiler": both go by what the table text
 -- means.
-use Rattle.std.specs.Prelude.{List, ◌⊎◌, ◌↔◌, ◌≡◌, ℕ, ◌+◌, ◌^◌, ◌<◌, ◌≤◌, length}
+use Rattle.std.specs.Prelude.{List, ◌⊎◌, ◌↔◌, ◌≡◌, ℕ, ◌+◌, ◌^◌, ◌<◌, ◌≤◌, length, Result, Ok, Err}
+use Rattle.numbers.specs.declared.refusals.Refusal.{Refusal}
+use Rattle.numbers.specs.declared.refusals.Refusal.TheVariants.{BrokenListing, UnlikeListing}
+use Rattle.numbers.specs.Refusals.{declined}
 use Rattle.numbers.specs.Bytes.{at}
 use Rattle.expansions.specs.declared.kinds.Kind.TheVariants.{Kronecker}
 use Rattle.expansions.specs.Members.{InClass, Gives}
@@ -19,8 +22,9 @@ use Rattle.table_texts.specs.Inner.Reading as tables
 use Rattle.listing_texts.specs.Form.{FormListing, KronListing}
 use Rattle.listing_texts.specs.Listings.{term_listing, Passes}
 use Rattle.listing_texts.specs.Refusals.{ListingRefusal}
-use Rattle.fitter.specs.declared.check.Checked.{Checked}
-use Rattle.fitter.specs.declared.check.Checked.TheVariants.{Same, Differs, NotOfClass, Refused}
+use Rattle.fitter.specs.declared.check.Verdict.{Verdict}
+use Rattle.numbers.specs.declared.refusals.Refused.{Refused}
+use Rattle.fitter.specs.declared.check.Verdict.TheVariants.{Same, Differs, NotOfClass}
 use Rattle.fitter.specs.Inner.Answer.{checked}
 
 -- ---- the answer in document 02's words
@@ -48,40 +52,40 @@ pub record LowestDifference (n : ℕ) (table s : List ℕ) (p : ℕ) : Type 0 wh
   pub before : (q : ℕ) → q < p → listing_value s q ≡ at table q
 
 -- when each answer is given beside an accepted table text whose k is a number: "The fitter's check takes both families"
-pub record Answers (z : Sizes) (table s : List ℕ) (r : Checked) : Type 0 where
+pub record Answers (z : Sizes) (table s : List ℕ) (r : Result Verdict Refused) : Type 0 where
   -- "'Not of the class' is said exactly when no member with the listing's M and i prints those cubes.", of the listings that are not refused
-  pub not_of_class : (r ≡ NotOfClass) ↔ (Passes z s × ((w c : ℕ → ℕ) → PrintsCubes z s w c → ⊥))
+  pub not_of_class : (r ≡ Ok NotOfClass) ↔ (Passes z s × ((w c : ℕ → ℕ) → PrintsCubes z s w c → ⊥))
   -- "'Same' is said exactly when some member .. prints just those lines, outputs and all, and gives every output at every point, cheap or not."
-  pub same : (r ≡ Same) ↔ ((v : ℕ) × (w : ℕ → ℕ) × (c : ℕ → ℕ) × PrintsTable z table s v w c)
+  pub same : (r ≡ Ok Same) ↔ ((v : ℕ) × (w : ℕ → ℕ) × (c : ℕ → ℕ) × PrintsTable z table s v w c)
   -- "Class is judged before points.": a member prints the cubes, and p is "the lowest point that differs"
-  pub differs : (p : ℕ) → (r ≡ Differs p) ↔ (Passes z s × ((w : ℕ → ℕ) × (c : ℕ → ℕ) × PrintsCubes z s w c) × LowestDifference z.n table s p)
+  pub differs : (p : ℕ) → (r ≡ Ok (Differs p)) ↔ (Passes z s × ((w : ℕ → ℕ) × (c : ℕ → ℕ) × PrintsCubes z s w c) × LowestDifference z.n table s p)
   -- a listing is refused exactly when it is not the listing of some terms, with the table's n, m, k, class and family and with its
   -- own counts
-  pub refusal : ((number line : ℕ) → r ≡ Refused number line → ⊥) ↔ Passes z s
+  pub refusal : ((e : Refused) → r ≡ Err e → ⊥) ↔ Passes z s
 
 -- the answer beside an accepted `K` table: "a `K` table beside a `form` listing is 12", a `form2` listing too, and any other listing 11, each with line 1
-pub record KroneckerAnswers (s : List ℕ) (r : Checked) : Type 0 where
-  pub form : (r ≡ Refused 12 1) ↔ FormListing s
-  pub other : (r ≡ Refused 11 1) ↔ (FormListing s → ⊥)
-  pub either : (r ≡ Refused 11 1) ⊎ (r ≡ Refused 12 1)
+pub record KroneckerAnswers (s : List ℕ) (r : Result Verdict Refused) : Type 0 where
+  pub form : (r ≡ Err (declined UnlikeListing 1)) ↔ FormListing s
+  pub other : (r ≡ Err (declined BrokenListing 1)) ↔ (FormListing s → ⊥)
+  pub either : (r ≡ Err (declined BrokenListing 1)) ⊎ (r ≡ Err (declined UnlikeListing 1))
 
 -- the check, for every pair of byte strings, by what the table text means: "the check resolves a dash like the compiler"
-pub record Check (text s : List ℕ) (r : Checked) : Type 0 where
+pub record Check (text s : List ℕ) (r : Result Verdict Refused) : Type 0 where
   pub answer : r ≡ checked (tables.reading text) s
   -- "The table text is judged first.": its refusal is the answer, with its number and its line, whatever the listing is
-  pub text_first : (number line : ℕ) → tables.reading text ≡ tables.refused number line → r ≡ Refused number line
+  pub text_first : (why : Refusal) (line : ℕ) → tables.reading text ≡ tables.refused why line → r ≡ Err (declined why line)
   -- and so the answer is refused in the documents' words, by the first bad line of the text
-  pub text_words : TextRefusals text (λ number line. r ≡ Refused number line)
+  pub text_words : TextRefusals text (λ why line. r ≡ Err (declined why line))
   pub words : (z : Sizes) (table : List ℕ) → Means text (mixed_design z) table → Answers z table s r
   -- "A broken listing line .. is 11 with its line in the listing": 11 with line 1 is said of the listings whose first line is no `form` or `form2` line, and of
   -- no others
-  pub first : (z : Sizes) (table : List ℕ) → Means text (mixed_design z) table → (r ≡ Refused 11 1) ↔ (FormListing s → ⊥)
+  pub first : (z : Sizes) (table : List ℕ) → Means text (mixed_design z) table → (r ≡ Err (declined BrokenListing 1)) ↔ (FormListing s → ⊥)
   -- W-202: "In the fitter's check a `kron` listing is 11, line 1", beside every table text that is accepted
-  pub kron : (d : Design) (table : List ℕ) → Means text d table → KronListing s → r ≡ Refused 11 1
+  pub kron : (d : Design) (table : List ℕ) → Means text d table → KronListing s → r ≡ Err (declined BrokenListing 1)
   -- "is 11 with its line in the listing", "is 12 with line 1": a listing is refused by no other number. "Both follow 10."
-  pub numbers : (z : Sizes) (table : List ℕ) → Means text (mixed_design z) table → (number line : ℕ) → r ≡ Refused number line
-      → ((number ≡ 11) × (1 ≤ line) × (line ≤ 1 + length s)) ⊎ ((number ≡ 12) × (line ≡ 1))
+  pub numbers : (z : Sizes) (table : List ℕ) → Means text (mixed_design z) table → (e : Refused) → r ≡ Err e
+      → ((e.refusal ≡ BrokenListing) × (1 ≤ e.line) × (e.line ≤ 1 + length s)) ⊎ ((e.refusal ≡ UnlikeListing) × (e.line ≡ 1))
   -- a listing is refused exactly where document 02 refuses it, by that number and with that line
-  pub refused : (z : Sizes) (table : List ℕ) → Means text (mixed_design z) table → (number line : ℕ)
-      → (r ≡ Refused number line) ↔ ListingRefusal z s number line
+  pub refused : (z : Sizes) (table : List ℕ) → Means text (mixed_design z) table → (why : Refusal) (line : ℕ)
+      → (r ≡ Err (declined why line)) ↔ ListingRefusal z s why line
   pub kronecker : (d : Design) (table : List ℕ) → Means text d table → d.kind ≡ Kronecker → KroneckerAnswers s r

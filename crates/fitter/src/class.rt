@@ -6,32 +6,26 @@ ghost use Rattle.numbers.specs.Bytes.{at};
 ghost use Rattle.numbers.specs.Tests.{every};
 ghost use Rattle.membership.specs.Class.{legal_pair, shows_back};
 
-use numbers::places::wide;
 use points::split::{gather, ones_in};
 use search::expansion::Expansion;
 use search::polarity::term_polarity;
 use table_texts::sizes::Sizes;
 
 // Whether M is a mask of exactly k of the n inputs, and i one of the other inputs.
+#[tactic(auto, unfolding(membership::specs::Class::legal_pair, expansions::specs::Inner::Answer::valid_pair))]
 pub fn legal_pair(sizes: Sizes, mixed: usize, fixed: usize) -> bool
     requires { sizes.n ≤ 8 }
     ensures { result ≡ legal_pair sizes.n sizes.k mixed fixed }
 {
-    let n = sizes.n;
-    let size: usize = 1 << n;
-    if size <= mixed {
-        return false;
-    }
-    if size <= fixed {
-        return false;
-    }
-    if ones_in(n, mixed) != sizes.k {
-        return false; // whatever i is: no member has this M
-    }
-    gather(n, mixed, fixed) == 0
+    let size = 1 << sizes.n;
+    mixed < size
+        && fixed < size
+        && ones_in(sizes.n, mixed) == sizes.k
+        && gather(sizes.n, mixed, fixed) == 0
 }
 
 // Whether the cube of the term t, where it has one, shows the term's literals as they are under the choice of its block.
+#[tactic(auto, unfolding(membership::specs::Class::shows_back))]
 fn shows_back(
     sizes: Sizes,
     mixed: usize,
@@ -44,11 +38,9 @@ fn shows_back(
     requires { (sizes.n ≤ 8) × (mixed < 2 ^ sizes.n) × (fixed < 2 ^ sizes.n) }
     ensures { result ≡ shows_back sizes.class sizes.n sizes.k mixed fixed (at blocks.now) (λ _. complemented) (λ _. coefficient) t }
 {
-    let class = sizes.class;
-    if coefficient == 0 {
-        return true;
-    }
-    t & term_polarity(class, sizes.n, sizes.k, mixed, fixed, blocks, t) == wide(complemented)
+    coefficient == 0
+        || t & term_polarity(sizes.class, sizes.n, sizes.k, mixed, fixed, blocks, t)
+            == usize::from(complemented)
 }
 
 // Whether every cube does.
@@ -64,10 +56,8 @@ pub fn all_show_back(
     ensures { result ≡ every (2 ^ sizes.n) (shows_back sizes.class sizes.n sizes.k mixed fixed (at blocks.now)
         (at complements.now) (at coefficients.now)) }
 {
-    let size: usize = 1 << sizes.n;
-    let mut t: usize = 0;
-    while t < size {
-        if !shows_back(
+    (0..1 << sizes.n).all(|t| {
+        shows_back(
             sizes,
             mixed,
             fixed,
@@ -75,10 +65,6 @@ pub fn all_show_back(
             coefficients[t],
             complements[t],
             t,
-        ) {
-            return false;
-        }
-        t += 1;
-    }
-    true
+        )
+    })
 }

@@ -7,17 +7,15 @@ ghost use Rattle.writing.specs.Put.{Put};
 ghost use Rattle.fitter.specs.Print.{Print};
 ghost use Rattle.fitter.specs.AnswerLine.{answer_line};
 
-use crate::check::{Checked, check};
-use text::print::judged_length;
-use writing::line::{write_line, write_refused};
+use crate::check::{Verdict, check};
+use numbers::refusals::Refused;
+use text::print::{judged_length, write_refusal};
+use writing::line::write_line;
 use writing::writer::Writer;
+use writing::written::Written;
 
-// What is printed: the first `length` of the bytes. The bytes past them are zero.
-#[derive(Clone, Copy)]
-pub struct PrintedCheck {
-    pub bytes: [u8; PrintedCheck::LONGEST_LINE],
-    pub length: usize,
-}
+// What is printed for a table text and a listing. The bytes past it are zero.
+pub struct PrintedCheck;
 
 impl PrintedCheck {
     // The length of the longest line: the word `refused` and two numbers of four digits.
@@ -29,33 +27,32 @@ fn write_word(word: &[u8], out: &mut [u8]) -> usize
     requires { length word.now + 1 ≤ length out.old }
     ensures { Put out.old 0 (line word.now []) out.new result }
 {
-    let stop = Writer { at: 0 }.word(out, word).byte(out, b'\n');
-    stop.at
+    Writer { at: 0 }.word(out, word).byte(out, b'\n').at
 }
 
 // Writes the line of an answer into the front of `out`, and gives the line's length.
-fn write_answer(answer: Checked, out: &mut [u8]) -> usize
+#[tactic(auto, unfolding(crate::specs::AnswerLine::answer_line, listings::specs::Parts::bytes))]
+fn write_answer(answer: Result<Verdict, Refused>, out: &mut [u8]) -> usize
     requires { 18 ≤ length out.old }
     ensures { Put out.old 0 (answer_line answer) out.new result }
 {
     match answer {
-        Checked::Same => write_word(b"same", out),
-        Checked::Differs { point } => {
-            let stop = write_line(Writer { at: 0 }, out, b"differs", &[point]);
-            stop.at
+        Ok(Verdict::Same) => write_word(b"same", out),
+        Ok(Verdict::Differs { point }) => {
+            write_line(Writer { at: 0 }, out, b"differs", &[point]).at
         }
-        Checked::NotOfClass => write_word(b"not of the class", out),
-        Checked::Refused { number, line } => write_refused(number, line, out),
+        Ok(Verdict::NotOfClass) => write_word(b"not of the class", out),
+        Err(refused) => write_refusal(refused, out),
     }
 }
 
 // What is printed for a table text and a listing, each judged by its first 8,192 bytes.
-pub fn print_check(text: &[u8], listing: &[u8]) -> PrintedCheck
+pub fn print_check(text: &[u8], listing: &[u8]) -> Written<{ PrintedCheck::LONGEST_LINE }>
     ensures { Print text.now listing.now result.bytes result.length }
 {
     let judged = judged_length(text);
     let other = judged_length(listing);
     let mut bytes = [0u8; PrintedCheck::LONGEST_LINE];
     let length = write_answer(check(&text[..judged], &listing[..other]), &mut bytes);
-    PrintedCheck { bytes, length }
+    Written { bytes, length }
 }

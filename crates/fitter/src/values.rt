@@ -5,17 +5,10 @@ ghost use Rattle.algebra.specs.Terms.{holds, value};
 ghost use Rattle.fitter.specs.Differences.{inverted_value, first_difference};
 ghost use Rattle.fitter.specs.Inner.Differences.{difference_of};
 
-use numbers::places::wide;
 use search::expansion::Expansion;
 
-// The lowest point that differs, if there is one.
-#[derive(Clone, Copy)]
-pub enum Difference {
-    At(usize),
-    Nowhere,
-}
-
 // Whether the literals of the term t are all true at the point p, where w has the term's complemented inputs.
+#[tactic(auto, unfolding(algebra::specs::Terms::holds, numbers::specs::Bits::inside))]
 fn holds(t: usize, w: usize, p: usize) -> bool
     ensures { result ≡ holds t w p }
 {
@@ -32,14 +25,11 @@ fn value_at(
     requires { n ≤ 8 }
     ensures { result ≡ value n (at complements.now) (at coefficients.now) p }
 {
-    let size: usize = 1 << n;
-    let mut sum: u8 = 0;
-    let mut t: usize = 0;
-    while t < size {
-        if holds(t, wide(complements[t]), p) {
-            sum = sum ^ coefficients[t];
+    let mut sum = 0;
+    for t in 0..1 << n {
+        if holds(t, usize::from(complements[t]), p) {
+            sum ^= coefficients[t];
         }
-        t += 1;
     }
     sum
 }
@@ -51,17 +41,9 @@ pub fn first_difference(
     complements: &[u8; Expansion::PLACES],
     inverted: u8,
     table: &[u8; Expansion::PLACES],
-) -> Difference
+) -> Option<usize>
     requires { n ≤ 8 }
     ensures { result ≡ difference_of (first_difference n (inverted_value n (at complements.now) (at coefficients.now) inverted) (at table.now)) }
 {
-    let size: usize = 1 << n;
-    let mut p: usize = 0;
-    while p < size {
-        if value_at(n, coefficients, complements, p) ^ inverted != table[p] {
-            return Difference::At(p);
-        }
-        p += 1;
-    }
-    Difference::Nowhere
+    (0..1 << n).find(|&p| value_at(n, coefficients, complements, p) ^ inverted != table[p])
 }

@@ -2,28 +2,20 @@
 ghost use Rattle.std.specs.Prelude.{◌≡◌};
 ghost use Rattle.kronecker.specs.Expansion.{empty_kronecker};
 
+use crate::letter::Letter;
 use numbers::limits::Limits;
 
-// An expansion of a kind and what it costs: the coefficient of each term, zero from 2^n on; the letter of each input from x1 up, S 0, P 1, N 2,
-// and 0 where there is no input; and the counts of products and literals.
-#[derive(Clone, Copy)]
+// An expansion of a kind and what it costs: the coefficient of each term, zero from 2^n on; the letter of each input from x1 up, Shannon
+// where there is no input; and the counts of products and literals.
+#[derive(Clone, Copy, Debug, PartialEq, Eq)]
 pub struct KroneckerExpansion {
     pub coefficients: [u8; KroneckerExpansion::PLACES],
-    pub letters: [u8; KroneckerExpansion::INPUTS],
+    pub letters: [Letter; KroneckerExpansion::INPUTS],
     pub products: usize,
     pub literals: usize,
 }
 
 impl KroneckerExpansion {
-    // The letter of an input taken the Shannon way.
-    pub const SHANNON: u8 = 0;
-
-    // The letter of an input taken the positive Davio way.
-    pub const POSITIVE: u8 = 1;
-
-    // The letter of an input taken the negative Davio way.
-    pub const NEGATIVE: u8 = 2;
-
     // The letters, one for each of as many inputs as there can be.
     pub const INPUTS: usize = Limits::INPUTS;
 
@@ -31,12 +23,13 @@ impl KroneckerExpansion {
     pub const PLACES: usize = Limits::PLACES;
 
     // The expansion with no product, every input taken the Shannon way.
+    #[tactic(auto, unfolding(crate::specs::Expansion::empty_kronecker))]
     pub fn empty() -> KroneckerExpansion
         ensures { result ≡ empty_kronecker }
     {
         KroneckerExpansion {
             coefficients: [0u8; KroneckerExpansion::PLACES],
-            letters: [0u8; KroneckerExpansion::INPUTS],
+            letters: [Letter::Shannon; KroneckerExpansion::INPUTS],
             products: 0,
             literals: 0,
         }

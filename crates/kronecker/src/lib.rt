@@ -6,6 +6,7 @@
 
 pub mod answer;
 pub mod expansion;
+pub mod letter;
 mod step;
 mod walk;
 mod weigh;

@@ -3,11 +3,12 @@
 // walk then does not give, that equal costs go to the letters that come first from xn down, a kind's score gives: its charge, then its
 // number, as one number. The last input makes no step: what its three kinds cost follows from the two halves and their exclusive OR.
 // The main property: `walk` hands up the lowest of `best` and the scores of all the kinds that have the letters chosen so far.
-ghost use Rattle.std.specs.Prelude.{◌≡◌, ◌⊎◌, suc, ◌+◌, ◌*◌, ◌≤◌, ◌<◌};
+ghost use Rattle.std.specs.Prelude.{◌≡◌, suc, ◌+◌, ◌*◌, ◌≤◌, ◌<◌};
 ghost use Rattle.numbers.specs.Bytes.{at};
 ghost use Rattle.expansions.specs.Inner.KroneckerWalk.{Place, Walked};
 
 use crate::expansion::KroneckerExpansion;
+use crate::letter::Letter;
 use crate::step::step;
 use crate::weigh::{HALF_PLACES, LITERAL_BITS, half_charges, weigh};
 
@@ -16,13 +17,6 @@ pub const KIND_BITS: usize = 13;
 
 // The room for a kind's number in its score: there are 3^8 = 6,561 kinds at most.
 const KINDS: usize = 1 << KIND_BITS;
-
-// The lower of two scores.
-fn lower(best: usize, score: usize) -> usize
-    ensures { (result ≤ best) × (result ≤ score) × ((result ≡ best) ⊎ (result ≡ score)) }
-{
-    if score < best { score } else { best }
-}
 
 // The score of the kind with the number `kind`: its charge, then its number.
 fn kind_score(charge: u32, kind: usize) -> usize
@@ -58,7 +52,7 @@ fn try_last(
         halves.upper + halves.both + davio_products,
         kind + power + power,
     );
-    lower(lower(lower(best, shannon), positive), negative)
+    best.min(shannon).min(positive).min(negative)
 }
 
 // Tries every kind that has the letters chosen for the inputs below i: the digits of `kind`, `power` being 3^i. `values` is the table
@@ -83,9 +77,9 @@ pub fn walk(
     let every = weigh(i, 1, weights);
     let shannon = walk(n, i + 1, kind, above, values, &every, best);
     let some = weigh(i, 0, weights);
-    let plain = step(i, KroneckerExpansion::POSITIVE, size, values);
+    let plain = step(i, Letter::Positive, size, values);
     let positive = walk(n, i + 1, kind + power, above, &plain, &some, shannon);
-    let other = step(i, KroneckerExpansion::NEGATIVE, size, values);
+    let other = step(i, Letter::Negative, size, values);
     walk(
         n,
         i + 1,

@@ -17,6 +17,7 @@ pub const PRODUCT: u32 = 1 << LITERAL_BITS;
 pub const HALF_PLACES: usize = 1 << (KroneckerExpansion::INPUTS - 1);
 
 // The weight where the coefficient is not 0, and 0 where it is.
+#[tactic(auto, unfolding(expansions::specs::Costs::counted))]
 fn counted_weight(coefficient: u8, weight: u32) -> u32
     ensures { result ≡ counted coefficient weight }
 {
@@ -24,7 +25,7 @@ fn counted_weight(coefficient: u8, weight: u32) -> u32
 }
 
 // What the lower half of the places weighs, the upper half, and their exclusive OR.
-#[derive(Clone, Copy)]
+#[derive(Clone, Copy, Debug, PartialEq, Eq)]
 pub struct HalfCharges {
     pub lower: u32,
     pub upper: u32,
@@ -41,18 +42,16 @@ pub fn half_charges(
     ensures { Halves m (at values.now) (at weights.now) result.lower result.upper result.both }
 {
     let half: usize = 1 << m;
-    let mut lower: u32 = 0;
-    let mut upper: u32 = 0;
-    let mut both: u32 = 0;
-    let mut s: usize = 0;
-    while s < half {
+    let mut lower = 0;
+    let mut upper = 0;
+    let mut both = 0;
+    for s in 0..half {
         let weight = weights[s];
         let first = values[s];
         let second = values[s + half];
         lower += counted_weight(first, weight);
         upper += counted_weight(second, weight);
         both += counted_weight(first ^ second, weight);
-        s += 1;
     }
     HalfCharges { lower, upper, both }
 }
@@ -64,12 +63,10 @@ pub fn weigh(i: usize, more: u32, weights: &[u32; HALF_PLACES]) -> [u32; HALF_PL
 {
     let half: usize = 1 << i;
     let mut next = [0u32; HALF_PLACES];
-    let mut s: usize = 0;
-    while s < half {
+    for s in 0..half {
         let weight = weights[s];
         next[s] = weight + more;
         next[s + half] = weight + 1;
-        s += 1;
     }
     next
 }

@@ -12,7 +12,7 @@ ghost use Rattle.lanes.specs.Inner.Lanes.{lane_byte, places_byte, lanes_under, b
 ghost use Rattle.lanes.specs.Inner.Sizes.{Limits, MixedSet};
 
 use crate::sizes::{Pair, Sizes};
-use numbers::places::wide;
+use algebra::transform::{change_polarity, coefficients_into};
 use points::ascending::next_point;
 use points::split::{gather, outside};
 
@@ -21,12 +21,10 @@ fn open_out(n: usize, mask: usize, points: &mut [u8])
     requires { (n ≤ 8) × (mask < 2 ^ n) }
     ensures { points.new ≡ tabulate (length points.old) (Split.spread n mask) }
 {
-    let mut point: usize = 0;
-    let mut y = 0;
-    while y < points.len() {
-        points[y] = (point & 255) as u8;
-        point = next_point(n, mask, point);
-        y += 1;
+    let mut next = 0;
+    for point in points.iter_mut() {
+        *point = (next & 255) as u8;
+        next = next_point(n, mask, next);
     }
 }
 
@@ -35,7 +33,7 @@ fn open_out(n: usize, mask: usize, points: &mut [u8])
 fn outputs_apart(outputs: u8) -> u64
     ensures { result ≡ word 8 (λ o. bit o outputs) }
 {
-    let each = (outputs as u64 * 0x0101010101010101) & 0x8040201008040201;
+    let each = (u64::from(outputs) * 0x0101010101010101) & 0x8040201008040201;
     ((each + 0x7f7f7f7f7f7f7f7f) >> 7) & 0x0101010101010101
 }
 
@@ -46,25 +44,10 @@ fn lane_word(table: &[u8], point: usize, offsets: &[u8; 8]) -> u64
     ensures { result ≡ word 8 (lane_byte table.now point offsets.now) }
 {
     let mut all: u64 = 0;
-    let mut p: usize = 0;
-    while p < 8 {
-        let apart = outputs_apart(table[point + wide(offsets[p])]);
-        all += apart << p;
-        p += 1;
+    for (p, offset) in offsets.iter().enumerate() {
+        all += outputs_apart(table[point + usize::from(*offset)]) << p;
     }
     all
-}
-
-// Writes the eight bytes of the word as those of block q.
-fn put_lanes(q: usize, all: u64, lanes: &mut [u8])
-    requires { 8 * q + 8 ≤ length lanes.old }
-    ensures { lanes.new ≡ sets lanes.old (8 * q) (tabulate 8 (λ o. byte o all)) }
-{
-    let mut o: usize = 0;
-    while o < 8 {
-        lanes[8 * q + o] = ((all >> (8 * o)) & 255) as u8;
-        o += 1;
-    }
 }
 
 // Fills `lanes` with a byte for each block and output, by the first point of each block and the offset of each place.
@@ -72,11 +55,9 @@ fn fill_lanes(table: &[u8], points: &[u8], offsets: &[u8; 8], lanes: &mut [u8])
     requires { (length lanes.old ≡ 8 * length points.now) × ((q p : ℕ) → q < length points.now → p < 8 → at points.now q + at offsets.now p < length table.now) }
     ensures { lanes.new ≡ tabulate (length lanes.old) (λ x. lane_byte table.now (at points.now (x / 8)) offsets.now (x % 8)) }
 {
-    let mut q = 0;
-    while q < points.len() {
-        let all = lane_word(table, wide(points[q]), offsets);
-        put_lanes(q, all, lanes);
-        q += 1;
+    for (q, point) in points.iter().enumerate() {
+        let all = lane_word(table, usize::from(*point), offsets);
+        lanes[8 * q..8 * q + 8].copy_from_slice(&all.to_le_bytes());
     }
 }
 
@@ -88,7 +69,7 @@ fn lay_out(sizes: Sizes, mixed: usize, table: &[u8], lanes: &mut [u8])
     ensures lanes_after { lanes.new ≡ tabulate (8 * 2 ^ (sizes.n - sizes.k)) (λ x. places_byte sizes.n sizes.k mixed (at table.now) (x % 8) (x / 8)) }
     ensures places { LaidOut sizes.n sizes.k mixed table.now lanes.new }
 {
-    let mut points = [0u8; numbers::limits::Limits::PLACES];
+    let mut points = [0u8; Sizes::PLACES];
     let mut offsets = [0u8; 8];
     let count: usize = 1 << (sizes.n - sizes.k);
     open_out(sizes.n, outside(sizes.n, mixed), &mut points[..count]);
@@ -101,7 +82,7 @@ fn expand_lanes(r: usize, w: usize, laid: &[u8], lanes: &mut [u8])
     requires { (r ≤ 8) × (w < 2 ^ r) × (length laid.now ≡ 8 * 2 ^ r) × (length lanes.old ≡ 8 * 2 ^ r) }
     ensures { lanes.new ≡ lanes_under r w (λ o q. at laid.now (q * 8 + o)) }
 {
-    algebra::transform::coefficients_into(3, r, w, laid, lanes);
+    coefficients_into(3, r, w, laid, lanes);
 }
 
 // Fills `lanes` with the function of each block of M and i, for each output.
@@ -127,5 +108,5 @@ pub fn next_polarity(r: usize, w: usize, lanes: &mut [u8])
     ensures by_index { (f : ℕ → ℕ → ℕ) → suc w < 2 ^ r → lanes.old ≡ lanes_under r w f → lanes.new ≡ lanes_under r (suc w) f }
     ensures every { NextLanes r w lanes.old lanes.new }
 {
-    algebra::transform::change_polarity(3, r, w, w + 1, lanes);
+    change_polarity(3, r, w, w + 1, lanes);
 }

@@ -9,32 +9,31 @@ ghost use Rattle.lanes.specs.Inner.Sizes.{Limits, MixedSet};
 ghost use Rattle.lanes.specs.Inner.Terms.{coefficient_in, coefficient_at};
 
 use crate::sizes::Sizes;
+use blocks::rows::ROWS;
 use points::split::split;
 
 // The coefficient at place s of block j under the block's choice, all outputs together, whatever class the rows are those of.
-fn coefficient_in(rows: &[u64; 512], lanes: &[u8], j: usize, s: usize, choice: u8) -> u8
+fn coefficient_in(rows: &[u64; ROWS], lanes: &[u8], j: usize, s: usize, choice: u8) -> u8
     requires { (j < 256) × (j * 8 + 8 ≤ length lanes.now) × (s < 8) × (choice < 16) }
     ensures { (C : Class) (k : ℕ) → Rows C k rows.now → choice < cond (apart C k) 16 8 → result ≡ coefficient_in C k (at lanes.now) j s choice }
 {
-    let first = (choice >> 3) as usize * 256;
-    let shift = 8 * (choice & 7) as usize + s;
+    let first = usize::from(choice >> 3) * 256;
+    let shift = 8 * usize::from(choice & 7) + s;
     let mut byte: u8 = 0;
-    let mut o: usize = 0;
-    while o < 8 {
-        let digit = ((rows[first + lanes[j * 8 + o] as usize] >> shift) & 1) as u8;
+    for o in 0..8 {
+        let digit = ((rows[first + usize::from(lanes[j * 8 + o])] >> shift) & 1) as u8;
         byte += digit << o;
-        o += 1;
     }
     byte
 }
 
 // The coefficient of the term t, and 0 where there is no term t.
 fn coefficient_at(
-    rows: &[u64; 512],
+    rows: &[u64; ROWS],
     sizes: Sizes,
     mixed: usize,
     lanes: &[u8],
-    chosen: &[u8; numbers::limits::Limits::PLACES],
+    chosen: &[u8; Sizes::PLACES],
     t: usize,
 ) -> u8
     requires rows { Rows sizes.class sizes.k rows.now }
@@ -48,30 +47,26 @@ fn coefficient_at(
         return 0;
     }
     let parts = split(sizes.n, mixed, t);
-    let j = parts.block;
-    let s = parts.place;
-    coefficient_in(rows, lanes, j, s, chosen[j])
+    coefficient_in(rows, lanes, parts.block, parts.place, chosen[parts.block])
 }
 
 // The coefficient of each term, from the block functions and the choice of each block.
 pub fn coefficients(
-    rows: &[u64; 512],
+    rows: &[u64; ROWS],
     sizes: Sizes,
     mixed: usize,
     lanes: &[u8],
-    chosen: &[u8; numbers::limits::Limits::PLACES],
-) -> [u8; numbers::limits::Limits::PLACES]
+    chosen: &[u8; Sizes::PLACES],
+) -> [u8; Sizes::PLACES]
     requires rows { Rows sizes.class sizes.k rows.now }
     requires limits { Limits sizes }
     requires mixed_set { MixedSet sizes mixed × (length lanes.now ≡ 8 * 2 ^ (sizes.n - sizes.k)) }
     requires by_index { (j : ℕ) → at chosen.now j < cond (apart sizes.class sizes.k) 16 8 }
     ensures { result ≡ tabulate 256 (coefficient_at sizes.class sizes.n sizes.k mixed (at lanes.now) (at chosen.now)) }
 {
-    let mut all = [0u8; numbers::limits::Limits::PLACES];
-    let mut t: usize = 0;
-    while t < numbers::limits::Limits::PLACES {
-        all[t] = coefficient_at(rows, sizes, mixed, lanes, chosen, t);
-        t += 1;
+    let mut all = [0u8; Sizes::PLACES];
+    for (t, coefficient) in all.iter_mut().enumerate() {
+        *coefficient = coefficient_at(rows, sizes, mixed, lanes, chosen, t);
     }
     all
 }

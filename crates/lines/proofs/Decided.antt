@@ -10,6 +10,7 @@ use Rattle.numbers.specs.Bytes.{at}
 use Rattle.numbers.specs.Nonzero.{over_nonzero}
 use Rattle.numbers.proofs.Nonzero.{over_nonzero-zero}
 use Rattle.listings.specs.Listing.{tabbed, line}
+use Rattle.std.specs.Prelude.{Option}
 use Rattle.lines.specs.declared.rows.RowLine.{RowLine}
 use Rattle.lines.specs.FirstBad.{Above, end_line, NoEnd}
 use Rattle.lines.proofs.LineKinds.{LineKind, row_lines, Held, held_none, held_more, here, lines_next}
@@ -20,7 +21,7 @@ line-long : (word more : List ℕ) (fs : List (List ℕ)) → length more < leng
 unfolding line
 line-long word more fs = omega (arith, length-append (word ++ tabbed fs ++ 10 ∷ []) more, length-append (word ++ tabbed fs) (10 ∷ []))
 
-module _ (n : ℕ) (says : List ℕ → RowLine) (word : List ℕ) (fields_of : ℕ → ℕ → List (List ℕ)) (Value : ℕ → ℕ → Type 0)
+module _ (n : ℕ) (says : List ℕ → Option RowLine) (word : List ℕ) (fields_of : ℕ → ℕ → List (List ℕ)) (Value : ℕ → ℕ → Type 0)
     (kind : LineKind says word fields_of Value) (low : 2 ^ n ≤ 256) where
   -- the lines that stand in front, of the places at which u is not 0
   abbrev pub front : List ℕ → List ℕ

@@ -16,12 +16,14 @@ use Rattle.listings.specs.Parts.{Parts, all, with_byte, parts, bytes}
 use Rattle.listings.specs.Listing.{tabbed, line}
 use Rattle.listings.proofs.Joined.{Plain, AllPlain, parts-lines}
 use Rattle.listings.proofs.Parts.{separated, parts-joined, others-none, others-more}
+use Rattle.std.specs.Prelude.{Option, Some, None}
+use Rattle.numbers.specs.declared.refusals.Refusal.{Refusal}
+use Rattle.numbers.specs.declared.refusals.Refusal.TheVariants.{BrokenLine, PointOrder, TextEnd}
 use Rattle.lines.specs.declared.rows.RowLine.{RowLine}
-use Rattle.lines.specs.declared.rows.RowLine.TheVariants.{Row, End, Wrong}
+use Rattle.lines.specs.declared.rows.RowLine.TheVariants.{Row, End}
 use Rattle.lines.specs.Rows.{RowsRead, refused, unfinished, ended, later_lines}
 use Rattle.lines.specs.FirstBad.{line_after, Above, end_line, NoEnd}
 use Rattle.lines.proofs.LineKinds.{LineKind, row_lines, lines_from, line-ended, Passed, passed}
-use Rattle.lines.proofs.RowLines.{wrong_row, wrong-end}
 
 -- ---- the number of a line
 
@@ -73,12 +75,12 @@ unfolding line tabbed bytes
 end-joined l s e = rw e
 
 -- what holds of a text that does not end within its first line, by what it is
-pub unfinished-some : (s l : List ℕ) → length l < length s → unfinished s ≡ 1
+pub unfinished-some : (s l : List ℕ) → length l < length s → unfinished s ≡ BrokenLine
 unfolding unfinished
 unfinished-some [] l h = absurd (omega arith)
 unfinished-some (b ∷ s) l h = refl
 
-module _ (n : ℕ) (says : List ℕ → RowLine) (word : List ℕ) (fields_of : ℕ → ℕ → List (List ℕ)) (Value : ℕ → ℕ → Type 0)
+module _ (n : ℕ) (says : List ℕ → Option RowLine) (word : List ℕ) (fields_of : ℕ → ℕ → List (List ℕ)) (Value : ℕ → ℕ → Type 0)
     (kind : LineKind says word fields_of Value) (low : 2 ^ n ≤ 256) where
   -- the bytes s begin with no line of the kind
   abbrev pub NoRow : List ℕ → Type 0
@@ -92,13 +94,13 @@ module _ (n : ℕ) (says : List ℕ → RowLine) (word : List ℕ) (fields_of : 
 
   -- the first part of a text that begins with a line of the kind or with `end` says so, and there are others
   pub row_first : (s : List ℕ) (p v : ℕ) (more : List ℕ) → Value p v → s ≡ line word (fields_of p v) ++ more
-      → (says (parts 10 s).first ≡ Row p v) × ((parts 10 s).others ≡ [] → ⊥)
+      → (says (parts 10 s).first ≡ Some (Row p v)) × ((parts 10 s).others ≡ [] → ⊥)
   row_first s p v more value e =
       let split : parts 10 s ≡ record { first = word ++ tabbed (fields_of p v); others = all (parts 10 more) } =
       ap (parts 10) e ∙ parts-lines word (fields_of p v) more kind.plain (kind.plain_fields p v) in
       (rw split (kind.row_is_said p v value), λ none. omega (arith, ap length (sym none ∙ ap (λ (x : Parts). x.others) split)))
 
-  pub end-first : (s more : List ℕ) → s ≡ end_line ++ more → (says (parts 10 s).first ≡ End) × ((parts 10 s).others ≡ [] → ⊥)
+  pub end-first : (s more : List ℕ) → s ≡ end_line ++ more → (says (parts 10 s).first ≡ Some End) × ((parts 10 s).others ≡ [] → ⊥)
   unfolding line tabbed bytes parts
   end-first s more e = (rw e kind.end_said, λ none. omega (arith, ap length (sym none ∙ ap (λ (x : List ℕ). (parts 10 x).others) e)))
 
@@ -111,15 +113,15 @@ module _ (n : ℕ) (says : List ℕ → RowLine) (word : List ℕ) (fields_of : 
     rest : List ℕ
     rest = drop (suc (length (parts 10 s).first)) s
 
-    judged : length l < length s → (x : RowLine) → says l ≡ x → Next number least t s
-    judged h (Row p v) said =
+    judged : length l < length s → (x : Option RowLine) → says l ≡ x → Next number least t s
+    judged h (Some (Row p v)) said =
         let read = kind.row_read l p v said in
         row p v rest read.1 (first-split s h ∙ line-ended word l rest (fields_of p v) read.0)
-    judged h End said = last rest (first-split s h ∙ end-joined l rest (kind.end_read l said))
-    judged h Wrong said =
+    judged h (Some End) said = last rest (first-split s h ∙ end-joined l rest (kind.end_read l said))
+    judged h None said =
         broken (ap (later_lines says n number least t l) (others-more 10 s h) ∙ rw (said, unfinished-some s l h))
-        (λ p v more value e. wrong_row (sym said ∙ (row_first s p v more value e).0))
-        (λ more e. wrong-end (sym said ∙ (end-first s more e).0))
+        (λ p v more value e. cc (said, (row_first s p v more value e).0))
+        (λ more e. cc (said, (end-first s more e).0))
 
     go : Dec (length l < length s) → Next number least t s
     go (yes h) = judged h (says l) refl
@@ -139,20 +141,20 @@ module _ (n : ℕ) (says : List ℕ → RowLine) (word : List ℕ) (fields_of : 
     go (last more e) = absurd (unended more e)
 
   no_place : (number least : ℕ) (t : List ℕ) (p v : ℕ) (more : List ℕ) → Value p v → (p < 2 ^ n → least ≤ p → ⊥)
-      → lines_from says n number least t (line word (fields_of p v) ++ more) ≡ refused 5 number
+      → lines_from says n number least t (line word (fields_of p v) ++ more) ≡ refused PointOrder number
   unfolding later_lines
   no_place number least t p v more good none =
       rw (parts-lines word (fields_of p v) more kind.plain (kind.plain_fields p v), kind.row_is_said p v good)
       (tested (ltb p (2 ^ n) && leb least p) refl (later_lines says n (number + 1) (p + 1) (set t p v) (parts 10 more).first (parts 10 more).others))
     where
-      tested : (b : Bool) → (ltb p (2 ^ n) && leb least p) ≡ b → (x : RowsRead) → cond b x (refused 5 number) ≡ refused 5 number
+      tested : (b : Bool) → (ltb p (2 ^ n) && leb least p) ≡ b → (x : RowsRead) → cond b x (refused PointOrder number) ≡ refused PointOrder number
       tested true e x = absurd (none (ltb-true p (2 ^ n) (both_left (ltb p (2 ^ n)) (leb least p) e)) (leb-true least p (both_right (ltb p (2 ^ n)) (leb least p) e)))
       tested false e x = refl
 
-  after-end : (number least : ℕ) (t : List ℕ) (b : ℕ) (more : List ℕ) → lines_from says n number least t (end_line ++ b ∷ more) ≡ refused 6 (number + 1)
+  after-end : (number least : ℕ) (t : List ℕ) (b : ℕ) (more : List ℕ) → lines_from says n number least t (end_line ++ b ∷ more) ≡ refused TextEnd (number + 1)
   unfolding later_lines line tabbed bytes parts ended
   after-end number least t b more = rw kind.end_said (go (eqb b 10)) where
-    go : (x : Bool) → ended number t (with_byte x b (parts 10 more)).first (with_byte x b (parts 10 more)).others ≡ refused 6 (number + 1)
+    go : (x : Bool) → ended number t (with_byte x b (parts 10 more)).first (with_byte x b (parts 10 more)).others ≡ refused TextEnd (number + 1)
     go true = refl
     go false = refl
 
@@ -178,24 +180,24 @@ module _ (n : ℕ) (says : List ℕ → RowLine) (word : List ℕ) (fields_of : 
         (on s).follows ∙ no_line (on s).number (on s).least (on s).values s none unended ∙ ap (λ (x : ℕ). refused (unfinished s) x) (line_on s)
 
     pub place-refused : (p v : ℕ) (more : List ℕ) → Value p v → (p < 2 ^ n → Above (2 ^ n) f p → ⊥)
-        → meant (line word (fields_of p v) ++ more) ≡ refused 5 (line_after (before ++ row_lines word fields_of f (2 ^ n)))
+        → meant (line word (fields_of p v) ++ more) ≡ refused PointOrder (line_after (before ++ row_lines word fields_of f (2 ^ n)))
     place-refused p v more value none =
         let w = on (line word (fields_of p v) ++ more) in
-        w.follows ∙ no_place w.number w.least w.values p v more value (λ h g. none h (w.above p g)) ∙ ap (refused 5) (line_on _)
+        w.follows ∙ no_place w.number w.least w.values p v more value (λ h g. none h (w.above p g)) ∙ ap (refused PointOrder) (line_on _)
 
-    pub followed-refused : (b : ℕ) (more : List ℕ) → meant (end_line ++ b ∷ more) ≡ refused 6 (line_after (before ++ row_lines word fields_of f (2 ^ n) ++ end_line))
+    pub followed-refused : (b : ℕ) (more : List ℕ) → meant (end_line ++ b ∷ more) ≡ refused TextEnd (line_after (before ++ row_lines word fields_of f (2 ^ n) ++ end_line))
     followed-refused b more =
         let w = on (end_line ++ b ∷ more) in
         let last : line_after (before ++ passing ++ end_line) ≡ w.number + 1 = omega (arith, line_on (end_line ++ b ∷ more), line_after_lem (before ++ passing) end_line, end-others) in
-        w.follows ∙ after-end w.number w.least w.values b more ∙ ap (refused 6) (sym last)
+        w.follows ∙ after-end w.number w.least w.values b more ∙ ap (refused TextEnd) (sym last)
 
     -- no line of the kind whose place is above those before
     abbrev NoRowAbove : List ℕ → Type 0
     NoRowAbove s = (p v : ℕ) (more : List ℕ) → Value p v → p < 2 ^ n → Above (2 ^ n) f p → s ≡ line word (fields_of p v) ++ more → ⊥
 
-    pub bad-refused : (s : List ℕ) → NoRowAbove s → NoEnd s → (x : ℕ) × (meant s ≡ refused x (line_after (before ++ row_lines word fields_of f (2 ^ n))))
+    pub bad-refused : (s : List ℕ) → NoRowAbove s → NoEnd s → (x : Refusal) × (meant s ≡ refused x (line_after (before ++ row_lines word fields_of f (2 ^ n))))
     bad-refused s none unended = go (next (on s).number (on s).least (on s).values s) where
-      go : Next (on s).number (on s).least (on s).values s → (x : ℕ) × (meant s ≡ refused x (line_after (before ++ row_lines word fields_of f (2 ^ n))))
+      go : Next (on s).number (on s).least (on s).values s → (x : Refusal) × (meant s ≡ refused x (line_after (before ++ row_lines word fields_of f (2 ^ n))))
       go (broken e _ _) = (unfinished s, (on s).follows ∙ e ∙ ap (λ (x : ℕ). refused (unfinished s) x) (line_on s))
-      go (row p v more value e) = (5, ap meant e ∙ place-refused p v more value (λ h g. none p v more value h g e))
+      go (row p v more value e) = (PointOrder, ap meant e ∙ place-refused p v more value (λ h g. none p v more value h g e))
       go (last more e) = absurd (unended more e)

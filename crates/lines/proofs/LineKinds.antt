@@ -23,29 +23,31 @@ use Rattle.listings.specs.Parts.{Parts, parts, bytes}
 use Rattle.listings.specs.Listing.{tabbed, line}
 use Rattle.listings.proofs.Joined.{Plain, AllPlain, parts-lines}
 use Rattle.listings.proofs.Parts.{separated, parts-joined}
+use Rattle.std.specs.Prelude.{Option, Some, None}
+use Rattle.numbers.specs.declared.refusals.Refusal.TheVariants.{PointOrder}
 use Rattle.lines.specs.declared.rows.RowLine.{RowLine}
-use Rattle.lines.specs.declared.rows.RowLine.TheVariants.{Row, End, Wrong}
+use Rattle.lines.specs.declared.rows.RowLine.TheVariants.{Row, End}
 use Rattle.lines.specs.Rows.{RowsRead, rows, refused, ended, judged_row, later_lines}
 use Rattle.lines.specs.FirstBad.{Above}
 
 -- ---- a kind of line
 
 -- the row that puts v at the place p is a line of the word and these fields, and v is a value of the kind there; and `end` is the line of the end
-pub record LineKind (says : List ℕ → RowLine) (word : List ℕ) (fields_of : ℕ → ℕ → List (List ℕ)) (Value : ℕ → ℕ → Type 0) : Type 0 where
+pub record LineKind (says : List ℕ → Option RowLine) (word : List ℕ) (fields_of : ℕ → ℕ → List (List ℕ)) (Value : ℕ → ℕ → Type 0) : Type 0 where
   pub plain : Plain word
   pub plain_fields : (p v : ℕ) → AllPlain (fields_of p v)
   pub some : (p v : ℕ) → Value p v → v ≡ 0 → ⊥
-  pub row_is_said : (p v : ℕ) → Value p v → says (word ++ tabbed (fields_of p v)) ≡ Row p v
-  pub row_read : (l : List ℕ) (p v : ℕ) → says l ≡ Row p v → (l ≡ word ++ tabbed (fields_of p v)) × Value p v
-  pub end_said : says (bytes "end") ≡ End
-  pub end_read : (l : List ℕ) → says l ≡ End → l ≡ bytes "end"
+  pub row_is_said : (p v : ℕ) → Value p v → says (word ++ tabbed (fields_of p v)) ≡ Some (Row p v)
+  pub row_read : (l : List ℕ) (p v : ℕ) → says l ≡ Some (Row p v) → (l ≡ word ++ tabbed (fields_of p v)) × Value p v
+  pub end_said : says (bytes "end") ≡ Some End
+  pub end_read : (l : List ℕ) → says l ≡ Some End → l ≡ bytes "end"
 
 -- the lines of the places below N whose values are not 0; f p is the value of the place p
 abbrev pub row_lines : List ℕ → (ℕ → ℕ → List (List ℕ)) → (ℕ → ℕ) → ℕ → List ℕ
 row_lines word fields_of f N = over_nonzero (λ p. line word (fields_of p (f p))) f N
 
 -- what the text s means where a line after the first begins with it
-abbrev pub lines_from : (List ℕ → RowLine) → (n number least : ℕ) → List ℕ → List ℕ → RowsRead
+abbrev pub lines_from : (List ℕ → Option RowLine) → (n number least : ℕ) → List ℕ → List ℕ → RowsRead
 lines_from says n number least values s = later_lines says n number least values (parts 10 s).first (parts 10 s).others
 
 -- what holds of values: they are 256, 0 from the place N on, and those that are not 0 are of the kind
@@ -78,15 +80,12 @@ module _ (Value : ℕ → ℕ → Type 0) (least : ℕ) (t : List ℕ) (g : Held
 
 -- ---- the laws
 
-no-refusal : {number at : ℕ} {t : List ℕ} → refused number at ≡ rows t → ⊥
-no-refusal e = let z : ◌≡◌ {A = ℕ} 0 1 = cc in omega arith
-
 -- no byte stands after the `end` line
 ended-read : (number : ℕ) (t u l : List ℕ) (ls : List (List ℕ)) → ended number t l ls ≡ rows u → (t ≡ u) × (l ++ separated 10 ls ≡ [])
 unfolding ended separated
 ended-read number t u [] [] e = (cc, refl)
-ended-read number t u [] (l ∷ ls) e = absurd (no-refusal e)
-ended-read number t u (b ∷ l) ls e = absurd (no-refusal e)
+ended-read number t u [] (l ∷ ls) e = cc
+ended-read number t u (b ∷ l) ls e = cc
 
 pub end_line_lem : bytes "end" ++ 10 ∷ [] ≡ line (bytes "end") []
 unfolding line tabbed bytes
@@ -96,7 +95,7 @@ pub line-ended : (word l s : List ℕ) (fs : List (List ℕ)) → l ≡ word ++ 
 unfolding line
 line-ended word l s fs e = rw e (sym (append_assoc (word ++ tabbed fs) (10 ∷ []) s))
 
-module _ (n : ℕ) (says : List ℕ → RowLine) (word : List ℕ) (fields_of : ℕ → ℕ → List (List ℕ)) (Value : ℕ → ℕ → Type 0)
+module _ (n : ℕ) (says : List ℕ → Option RowLine) (word : List ℕ) (fields_of : ℕ → ℕ → List (List ℕ)) (Value : ℕ → ℕ → Type 0)
     (kind : LineKind says word fields_of Value) (low : 2 ^ n ≤ 256) where
   -- ---- what is written is read
 
@@ -229,7 +228,7 @@ module _ (n : ℕ) (says : List ℕ → RowLine) (word : List ℕ) (fields_of : 
   lines-read : (ls : List (List ℕ)) (number least : ℕ) (t u l : List ℕ) → Held least Value t → least ≤ 2 ^ n
       → later_lines says n number least t l ls ≡ rows u → Read u (row_lines word fields_of (at t) least ++ (l ++ separated 10 ls))
   unfolding later_lines separated
-  lines-read [] number least t u l g inside e = absurd (no-refusal e)
+  lines-read [] number least t u l g inside e = cc
   lines-read (l' ∷ ls) number least t u l g inside e = judged (says l) refl (λ p v. lines-read ls (number + 1) (p + 1) (set t p v) u l') e where
     rest : List ℕ
     rest = l' ++ separated 10 ls
@@ -240,7 +239,7 @@ module _ (n : ℕ) (says : List ℕ → RowLine) (word : List ℕ) (fields_of : 
         → Read u (row_lines word fields_of (at (set t p v)) (p + 1) ++ rest)
 
     tested : (p v : ℕ) (b : Bool) → (ltb p (2 ^ n) && leb least p) ≡ b → (l ≡ word ++ tabbed (fields_of p v)) × Value p v → Next p v
-        → cond b (later_lines says n (number + 1) (p + 1) (set t p v) l' ls) (refused 5 number) ≡ rows u
+        → cond b (later_lines says n (number + 1) (p + 1) (set t p v) l' ls) (refused PointOrder number) ≡ rows u
         → Read u (row_lines word fields_of (at t) least ++ (l ++ 10 ∷ rest))
     tested p v true h row ih f =
         let below : p < 2 ^ n = ltb-true p (2 ^ n) (both_left (ltb p (2 ^ n)) (leb least p) h) in
@@ -249,13 +248,13 @@ module _ (n : ℕ) (says : List ℕ → RowLine) (word : List ℕ) (fields_of : 
         ap (λ (s : List ℕ). row_lines word fields_of (at t) least ++ s) (line-ended word l rest (fields_of p v) row.0)
         ∙ lines_next least t p v rest g above below row.1 in
         subst (Read u) (sym passes) (ih (held_more Value least t g p v above (omega arith) row.1) (omega arith) f)
-    tested p v false h row ih f = absurd (no-refusal f)
+    tested p v false h row ih f = cc
 
-    judged : (x : RowLine) → says l ≡ x → ((p v : ℕ) → Next p v)
+    judged : (x : Option RowLine) → says l ≡ x → ((p v : ℕ) → Next p v)
         → judged_row x n number least t (ended number t l' ls) (λ least values. later_lines says n (number + 1) least values l' ls) ≡ rows u
         → Read u (row_lines word fields_of (at t) least ++ (l ++ 10 ∷ rest))
-    judged (Row p v) said ih f = tested p v (ltb p (2 ^ n) && leb least p) refl (kind.row_read l p v said) (ih p v) f
-    judged End said ih f =
+    judged (Some (Row p v)) said ih f = tested p v (ltb p (2 ^ n) && leb least p) refl (kind.row_read l p v said) (ih p v) f
+    judged (Some End) said ih f =
         let done = ended-read number t u l' ls f in
         let before : row_lines word fields_of (at t) least ≡ row_lines word fields_of (at u) (2 ^ n) =
         sym (over_nonzero-zero (λ q. line word (fields_of q (at t q))) (at t) least (2 ^ n) g.rest inside)
@@ -264,7 +263,7 @@ module _ (n : ℕ) (says : List ℕ → RowLine) (word : List ℕ) (fields_of : 
           characters = ap₂ ◌++◌ before (ap₂ (λ (a b : List ℕ). a ++ 10 ∷ b) (kind.end_read l said) done.1 ∙ end_line_lem);
           held = rw (← done.0) (record { long = g.long; rest = λ p h. g.rest p (omega arith); each = g.each });
         }
-    judged Wrong said ih f = absurd (no-refusal f)
+    judged None said ih f = cc
 
   -- the line l and the parts after it
   pub parts-read : (number : ℕ) (l : List ℕ) (ls : List (List ℕ)) (u : List ℕ) → later_lines says n number 0 (replicate 256 0) l ls ≡ rows u

@@ -21,6 +21,8 @@ use Rattle.expansions.specs.Costs.{counted}
 use Rattle.listings.specs.Parts.{bytes}
 use Rattle.listings.specs.Listing.{line, cube, output_bytes, cube_line, term_line, term_lines}
 use Rattle.listings.proofs.Cubes.{cube-masked}
+use Rattle.numbers.specs.declared.refusals.Refusal.{Refusal}
+use Rattle.numbers.specs.declared.refusals.Refusal.TheVariants.{TextEnd}
 use Rattle.lines.specs.Rows.{listing_grammar, rows, refused, row_line, rows_from}
 use Rattle.lines.specs.FirstBad.{line_after, end_line, NoEnd, NoTerm}
 use Rattle.lines.proofs.LineKinds.{row_lines, Held, rows_written, rows-read}
@@ -146,7 +148,7 @@ module _ (n m : ℕ) (w c : ℕ → ℕ) (hn : n ≤ 8) (hm : m ≤ 8) (small : 
 
   -- lines that are written for terms, and then no line that may stand there
   pub terms-bad : (before s : List ℕ) → NoTerm n m c s → NoEnd s
-      → (x : ℕ) × (rows_from (listing_grammar n m) (line_after before) (term_lines n m w c (2 ^ n) ++ s) ≡ refused x (line_after (before ++ term_lines n m w c (2 ^ n))))
+      → (x : Refusal) × (rows_from (listing_grammar n m) (line_after before) (term_lines n m w c (2 ^ n) ++ s) ≡ refused x (line_after (before ++ term_lines n m w c (2 ^ n))))
   unfolding cube_line
   terms-bad before s none unended =
       rw lines_same at
@@ -158,7 +160,7 @@ module _ (n m : ℕ) (w c : ℕ → ℕ) (hn : n ≤ 8) (hm : m ≤ 8) (small : 
   -- lines that are written for terms, `end`, and then a byte more
   pub terms-followed : (before : List ℕ) (b : ℕ) (more : List ℕ)
       → rows_from (listing_grammar n m) (line_after before) (term_lines n m w c (2 ^ n) ++ (end_line ++ b ∷ more))
-      ≡ refused 6 (line_after (before ++ term_lines n m w c (2 ^ n) ++ end_line))
+      ≡ refused TextEnd (line_after (before ++ term_lines n m w c (2 ^ n) ++ end_line))
   terms-followed before b more =
       rw lines_same at
       (followed-refused n (row_line (listing_grammar n m)) (bytes "term") fields (TermValue n m) (listing-kind n m hn hm) (points-le n hn) before values good b more)

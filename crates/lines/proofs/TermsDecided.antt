@@ -8,10 +8,12 @@ use Rattle.numbers.specs.Bytes.{at}
 use Rattle.numbers.proofs.Shifts.{points-le}
 use Rattle.listings.specs.Parts.{parts, bytes}
 use Rattle.listings.specs.Listing.{cube, output_bytes, term_line, term_lines}
+use Rattle.std.specs.Prelude.{Option, Some}
+use Rattle.lines.specs.declared.rows.RowLine.{RowLine}
 use Rattle.lines.specs.declared.rows.RowLine.TheVariants.{Row}
 use Rattle.lines.specs.Rows.{listing_grammar, row_line}
 use Rattle.lines.specs.FirstBad.{Above, end_line, NoEnd, NoTerm}
-use Rattle.lines.proofs.RowLines.{TermValue, listing-kind, end_row}
+use Rattle.lines.proofs.RowLines.{TermValue, listing-kind}
 use Rattle.lines.proofs.FirstBad.{row_first, end-first}
 use Rattle.lines.proofs.Decided.{Follows, Decided, decided}
 use Rattle.lines.proofs.Terms.{term_rows, lines-read, value_written, line-value}
@@ -39,12 +41,12 @@ module _ (n m : ℕ) (hn : n ≤ 8) (hm : m ≤ 8) where
 
   -- a `term` line says its term
   term-first : (s : List ℕ) (t w x : ℕ) (more : List ℕ) → t < 2 ^ n → x < 2 ^ m → (x ≡ 0 → ⊥) → s ≡ term_line n m t w x ++ more
-      → row_line (listing_grammar n m) (parts 10 s).first ≡ Row t (bit_and t w * 256 + x)
+      → row_line (listing_grammar n m) (parts 10 s).first ≡ Some (Row t (bit_and t w * 256 + x))
   term-first s t w x more h small some e =
       (row_first n (row_line (listing_grammar n m)) (bytes "term") fields (TermValue n m) (listing-kind n m hn hm) low s t (bit_and t w * 256 + x) more
       (value_written m t w x hm small n hn h some) (e ∙ ap (λ (l : List ℕ). l ++ more) (sym (line-value n m t w x hm small)))).0
 
-  same-term : {p v t x : ℕ} → Row p v ≡ Row t x → p ≡ t
+  same-term : {p v t x : ℕ} → ◌≡◌ {A = Option RowLine} (Some (Row p v)) (Some (Row t x)) → p ≡ t
   same-term e = cc
 
   pub terms-decided : (s : List ℕ) → TermsDecided n m s
@@ -77,5 +79,5 @@ module _ (n m : ℕ) (hn : n ≤ 8) (hm : m ≤ 8) where
             (λ t w x other h above small some f.
             let same : p ≡ t = same-term (sym said ∙ term-first c.rest t w x other h small some f) in
             none (rw same h) (rw same (above-all t above)))
-            (λ other f. end_row (sym (end-first n (row_line (listing_grammar n m)) (bytes "term") fields (TermValue n m) (listing-kind n m hn hm) low c.rest other f).0 ∙ said))
+            (λ other f. cc ((end-first n (row_line (listing_grammar n m)) (bytes "term") fields (TermValue n m) (listing-kind n m hn hm) low c.rest other f).0, said))
         follow (Follows.continues b more e) = continues b more e

@@ -7,20 +7,13 @@ ghost use Rattle.lines.specs.Inner.Steps.{rows_at, Within, Stepped};
 use crate::rows::{Grammar, RowLine, row_line};
 use fields::cursor::Cursor;
 use numbers::limits::Limits;
+use numbers::refusals::{Refusal, Refused};
 
-// What the lines lead to. A refusal has document 01's number and the line.
+// The line that comes next, with the least place that it may have.
 #[derive(Clone, Copy)]
-pub enum RowsAnswer {
-    Done,
-    Refused { number: usize, line: usize },
-}
-
-// What one line leads to: the next line, with the least place that it may have; the end; or a refusal.
-#[derive(Clone, Copy)]
-enum Step {
-    Next(Cursor, usize),
-    Done,
-    Refused { number: usize, line: usize },
+struct NextRow {
+    cursor: Cursor,
+    least: usize,
 }
 
 // Puts a value at a place, if the place is below 2^n and at least `least`; else the values stay.
@@ -35,84 +28,73 @@ fn put_row(
     ensures value { result ≡ (ltb at (2 ^ n) && leb least at) }
     ensures rows_after { rows.new ≡ cond result (set rows.old at value) rows.old }
 {
-    if (1 << n) <= at {
-        return false;
-    }
-    if at < least {
+    if (1 << n) <= at || at < least {
         return false;
     }
     rows[at] = value as u16;
     true
 }
 
-// The refusal of a line that no byte 10 ends: 6 where nothing stands there, else 1.
-pub fn unfinished(line: &[u8]) -> usize
+// The refusal of a line that no byte 10 ends: 6 where nothing stands there, and else 1.
+#[tactic(auto, unfolding(crate::specs::Rows::unfinished))]
+pub fn unfinished(line: &[u8]) -> Refusal
     ensures { result ≡ unfinished line.now }
 {
-    if line.len() == 0 { 6 } else { 1 }
+    if line.is_empty() {
+        Refusal::TextEnd
+    } else {
+        Refusal::BrokenLine
+    }
 }
 
-// Judges the line at the cursor, a row or the last, and puts its value among the values.
+// Judges the line at the cursor, a row or the last, and puts its value among the values. After a row comes the next line, and after the last none.
 fn judge_row(
     text: &[u8],
     cursor: Cursor,
     grammar: Grammar,
     least: usize,
     rows: &mut [u16; Limits::PLACES],
-) -> Step
+) -> Result<Option<NextRow>, Refused>
     requires { (Within text.now cursor) × (grammar.n ≤ 8) × (grammar.m ≤ 8) }
     ensures { Stepped text.now cursor grammar least rows.old result rows.new }
 {
-    let line = cursor.line;
     let stop = cursor.seek(text, b'\n');
-    let from = cursor.at;
-    let to = stop.at;
-    if to == text.len() {
-        return Step::Refused {
-            number: unfinished(&text[from..to]),
-            line,
-        };
+    let line = &text[cursor.at..stop.at];
+    if stop.at == text.len() {
+        return Err(unfinished(line).at(cursor.line));
     }
-    match row_line(grammar, &text[from..to]) {
-        RowLine::Row { at, value } => {
-            if put_row(grammar.n, least, at, value, rows) {
-                return Step::Next(stop.next_line(), at + 1);
+    match row_line(grammar, line) {
+        Some(RowLine::Row { at, value }) => {
+            if !put_row(grammar.n, least, at, value, rows) {
+                return Err(Refusal::PointOrder.at(cursor.line));
             }
-            Step::Refused { number: 5, line }
+            Ok(Some(NextRow {
+                cursor: stop.next_line(),
+                least: at + 1,
+            }))
         }
-        RowLine::End => {
-            if to + 1 == text.len() {
-                return Step::Done;
-            }
-            Step::Refused {
-                number: 6,
-                line: line + 1,
-            }
-        }
-        RowLine::Wrong => Step::Refused { number: 1, line },
+        Some(RowLine::End) if stop.at + 1 == text.len() => Ok(None),
+        Some(RowLine::End) => Err(Refusal::TextEnd.at(cursor.line + 1)),
+        None => Err(Refusal::BrokenLine.at(cursor.line)),
     }
 }
 
 // Judges the lines from the cursor on, and puts their values among the values.
+#[tactic(auto, unfolding(crate::specs::Rows::stands_for))]
 pub fn judge_rows(
     text: &[u8],
     start: Cursor,
     grammar: Grammar,
     rows: &mut [u16; Limits::PLACES],
-) -> RowsAnswer
+) -> Result<(), Refused>
     requires { (Within text.now start) × (grammar.n ≤ 8) × (grammar.m ≤ 8) }
     ensures { stands_for result rows.new ≡ rows_at text.now grammar start 0 rows.old }
 {
     let mut cursor = start;
     let mut least = 0;
-    loop {
-        match judge_row(text, cursor, grammar, least, rows) {
-            Step::Next(c, p) => {
-                cursor = c;
-                least = p;
-            }
-            Step::Done => return RowsAnswer::Done,
-            Step::Refused { number, line } => return RowsAnswer::Refused { number, line },
-        }
+    while let Some(next) = judge_row(text, cursor, grammar, least, rows)? {
+        cursor = next.cursor;
+        least = next.least;
     }
+    Ok(())
 }

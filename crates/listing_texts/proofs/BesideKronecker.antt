@@ -10,6 +10,8 @@ use native.Mathlib.Omega.{arith}
 use lib.Dec.{eqb}
 use lib.ListN.{length, take, drop, take-append-drop}
 use lib.Seq.{take-append-add}
+use Rattle.std.specs.Prelude.{Option, Some, None}
+use Rattle.numbers.specs.declared.refusals.Refusal.TheVariants.{BrokenListing, UnlikeListing}
 use Rattle.expansions.specs.declared.families.Family.{Family}
 use Rattle.expansions.specs.declared.families.Family.TheVariants.{One, Two}
 use Rattle.listings.specs.Parts.{parts, bytes, same, fields, field}
@@ -20,14 +22,9 @@ use Rattle.listings.proofs.Lengths.{digits_of-le, length-form_word, length-form_
 use Rattle.listings.proofs.Meaning.{plain_form}
 use Rattle.listings.proofs.Parts.{separated, parts-joined}
 use Rattle.fields.specs.declared.heading.Heading.{Heading}
-use Rattle.fields.specs.declared.heading.Heading.TheVariants as heading
-use Rattle.fields.specs.declared.values.MixedRead.TheVariants as mixed
 use Rattle.fields.specs.Fields.{headed, family_of, heading_said, digit, one_digit, number, mixed_said}
 use Rattle.table_texts.specs.declared.sizes.Sizes.{Sizes}
-use Rattle.listing_texts.specs.declared.form.SizesRead.TheVariants as sizes
 use Rattle.listing_texts.specs.declared.form.Form.{Form}
-use Rattle.listing_texts.specs.declared.form.FirstLine.{FirstLine}
-use Rattle.listing_texts.specs.declared.form.FirstLine.TheVariants.{States, Wrong}
 use Rattle.listing_texts.specs.Form.{sizes_of, first_line, stated_fields, FormListing, KronListing}
 use Rattle.listing_texts.specs.Read.{refused, all_lines, listing_reading, beside_line, beside_lines, beside_kronecker}
 use Rattle.listing_texts.proofs.FormRead.{plain-stated, form-said, form-read}
@@ -35,7 +32,7 @@ use Rattle.listing_texts.proofs.Length.{mark-le}
 
 -- ---- a `form` or `form2` listing
 
-form-beside : (s : List ℕ) → FormListing s → beside_kronecker s ≡ 12
+form-beside : (s : List ℕ) → FormListing s → beside_kronecker s ≡ UnlikeListing
 unfolding beside_kronecker beside_lines
 form-beside s g =
     let family : Family = g.form.sizes.family in
@@ -45,12 +42,12 @@ form-beside s g =
       form-said g.form g.digits,
     )
 
-lines-form : (s l : List ℕ) (ls : List (List ℕ)) → l ++ separated 10 ls ≡ s → beside_lines l ls ≡ 12 → FormListing s
+lines-form : (s l : List ℕ) (ls : List (List ℕ)) → l ++ separated 10 ls ≡ s → beside_lines l ls ≡ UnlikeListing → FormListing s
 unfolding beside_lines separated line
-lines-form s l [] e h = absurd (omega arith)
+lines-form s l [] e h = cc
 lines-form s l (l' ∷ ls) e h = go (first_line l) refl h where
-  go : (x : FirstLine) → first_line l ≡ x → beside_line x ≡ 12 → FormListing s
-  go (States f) says h =
+  go : (x : Option Form) → first_line l ≡ x → beside_line x ≡ UnlikeListing → FormListing s
+  go (Some f) says h =
       let read = form-read l f says in
       let rest : List ℕ = l' ++ separated 10 ls in
       let word : List ℕ = form_word f.sizes.family ++ tabbed (stated_fields f) in
@@ -60,29 +57,29 @@ lines-form s l (l' ∷ ls) e h = go (first_line l) refl h where
         rest = rest;
         characters = sym e ∙ ap (λ (a : List ℕ). a ++ 10 ∷ rest) read.0 ∙ sym (append_assoc word (10 ∷ []) rest);
       }
-  go Wrong says h = absurd (omega arith)
+  go None says h = cc
 
-pub form-exactly : (s : List ℕ) → (beside_kronecker s ≡ 12) ↔ FormListing s
+pub form-exactly : (s : List ℕ) → (beside_kronecker s ≡ UnlikeListing) ↔ FormListing s
 unfolding beside_kronecker
 form-exactly s = (lines-form s (parts 10 s).first (parts 10 s).others (parts-joined 10 s), form-beside s)
 
 -- ---- any other
 
-lines-either : (l : List ℕ) (ls : List (List ℕ)) → (beside_lines l ls ≡ 11) ⊎ (beside_lines l ls ≡ 12)
+lines-either : (l : List ℕ) (ls : List (List ℕ)) → (beside_lines l ls ≡ BrokenListing) ⊎ (beside_lines l ls ≡ UnlikeListing)
 unfolding beside_lines
 lines-either l [] = inl refl
 lines-either l (l' ∷ ls) = go (first_line l) where
-  go : (x : FirstLine) → (beside_line x ≡ 11) ⊎ (beside_line x ≡ 12)
-  go (States f) = inr refl
-  go Wrong = inl refl
+  go : (x : Option Form) → (beside_line x ≡ BrokenListing) ⊎ (beside_line x ≡ UnlikeListing)
+  go (Some f) = inr refl
+  go None = inl refl
 
-pub beside-either : (s : List ℕ) → (beside_kronecker s ≡ 11) ⊎ (beside_kronecker s ≡ 12)
+pub beside-either : (s : List ℕ) → (beside_kronecker s ≡ BrokenListing) ⊎ (beside_kronecker s ≡ UnlikeListing)
 unfolding beside_kronecker
 beside-either s = lines-either (parts 10 s).first (parts 10 s).others
 
-pub other-exactly : (s : List ℕ) → (beside_kronecker s ≡ 11) ↔ (FormListing s → ⊥)
-other-exactly s = (λ e g. omega (arith, form-beside s g), λ none. go none (beside-either s)) where
-  go : (FormListing s → ⊥) → (beside_kronecker s ≡ 11) ⊎ (beside_kronecker s ≡ 12) → beside_kronecker s ≡ 11
+pub other-exactly : (s : List ℕ) → (beside_kronecker s ≡ BrokenListing) ↔ (FormListing s → ⊥)
+other-exactly s = (λ e g. cc (form-beside s g), λ none. go none (beside-either s)) where
+  go : (FormListing s → ⊥) → (beside_kronecker s ≡ BrokenListing) ⊎ (beside_kronecker s ≡ UnlikeListing) → beside_kronecker s ≡ BrokenListing
   go none (inl e) = e
   go none (inr e) = absurd (none ((form-exactly s).0 e))
 
@@ -130,27 +127,27 @@ form-whole s g =
 
 pub beside_first : (s : List ℕ) → beside_kronecker (take 8192 s) ≡ beside_kronecker s
 beside_first s = go (beside-either s) where
-  go : (beside_kronecker s ≡ 11) ⊎ (beside_kronecker s ≡ 12) → beside_kronecker (take 8192 s) ≡ beside_kronecker s
+  go : (beside_kronecker s ≡ BrokenListing) ⊎ (beside_kronecker s ≡ UnlikeListing) → beside_kronecker (take 8192 s) ≡ beside_kronecker s
   go (inl e) = (other-exactly (take 8192 s)).1 (λ g. (other-exactly s).0 e (form-whole s g)) ∙ sym e
   go (inr e) = (form-exactly (take 8192 s)).1 (form-first s ((form-exactly s).0 e)) ∙ sym e
 
 -- ---- a first line that is wrong
 
-wrong-lines : (l : List ℕ) (ls : List (List ℕ)) → first_line l ≡ Wrong → beside_lines l ls ≡ 11
+wrong-lines : (l : List ℕ) (ls : List (List ℕ)) → first_line l ≡ None → beside_lines l ls ≡ BrokenListing
 unfolding beside_lines
 wrong-lines l [] e = refl
 wrong-lines l (l' ∷ ls) e = ap beside_line e
 
-pub wrong-beside : (s : List ℕ) → first_line (parts 10 s).first ≡ Wrong → beside_kronecker s ≡ 11
+pub wrong-beside : (s : List ℕ) → first_line (parts 10 s).first ≡ None → beside_kronecker s ≡ BrokenListing
 unfolding beside_kronecker
 wrong-beside s e = wrong-lines (parts 10 s).first (parts 10 s).others e
 
-wrong-all : (z : Sizes) (l : List ℕ) (ls : List (List ℕ)) → first_line l ≡ Wrong → all_lines z l ls ≡ refused 11 1
+wrong-all : (z : Sizes) (l : List ℕ) (ls : List (List ℕ)) → first_line l ≡ None → all_lines z l ls ≡ refused BrokenListing 1
 unfolding all_lines
 wrong-all z l [] e = refl
 wrong-all z l (l' ∷ ls) e = rw e
 
-pub wrong-read : (z : Sizes) (s : List ℕ) → first_line (parts 10 s).first ≡ Wrong → listing_reading z s ≡ refused 11 1
+pub wrong-read : (z : Sizes) (s : List ℕ) → first_line (parts 10 s).first ≡ None → listing_reading z s ≡ refused BrokenListing 1
 unfolding listing_reading
 wrong-read z s e = wrong-all z (parts 10 s).first (parts 10 s).others e
 
@@ -160,24 +157,24 @@ unfolding headed form_word same bytes
 kron-headed l One e = rw e (and-false (eqb (length (fields l)) 8))
 kron-headed l Two e = rw e (and-false (eqb (length (fields l)) 8))
 
-pub kron-wrong : (s : List ℕ) → KronListing s → first_line (parts 10 s).first ≡ Wrong
+pub kron-wrong : (s : List ℕ) → KronListing s → first_line (parts 10 s).first ≡ None
 unfolding first_line family_of
 kron-wrong s e = let l : List ℕ = (parts 10 s).first in rw (kron-headed l One e, kron-headed l Two e)
 
 -- nor has one a `-` for k, which says no class
 
-no-class : (h : Heading) → sizes_of h mixed.Wrong ≡ sizes.Wrong
-no-class (heading.Is F n m) = refl
-no-class heading.Wrong = refl
+no-class : (h : Option Heading) → ◌≡◌ {A = Option Sizes} (sizes_of h None) None
+no-class (Some h) = refl
+no-class None = refl
 
-dash-no-class : mixed_said (bytes "-") ≡ mixed.Wrong
+dash-no-class : mixed_said (bytes "-") ≡ None
 unfolding mixed_said one_digit digit bytes
 dash-no-class = refl
 
-pub dash-wrong : (s : List ℕ) → shown_field s ≡ bytes "-" → first_line (parts 10 s).first ≡ Wrong
+pub dash-wrong : (s : List ℕ) → shown_field s ≡ bytes "-" → first_line (parts 10 s).first ≡ None
 unfolding first_line
 dash-wrong s e =
     let l : List ℕ = (parts 10 s).first in
-    let h : Heading = heading_said (family_of 8 (form_word One) (form_word Two) l) (number 4 (field 1 l)) (number 4 (field 2 l)) in
-    let none : sizes_of h (mixed_said (field 3 l)) ≡ sizes.Wrong = ap (sizes_of h) (ap mixed_said e ∙ dash-no-class) ∙ no-class h in
+    let h : Option Heading = heading_said (family_of 8 (form_word One) (form_word Two) l) (number 4 (field 1 l)) (number 4 (field 2 l)) in
+    let none : sizes_of h (mixed_said (field 3 l)) ≡ None = ap (sizes_of h) (ap mixed_said e ∙ dash-no-class) ∙ no-class h in
     rw none

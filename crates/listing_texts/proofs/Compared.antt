@@ -4,9 +4,10 @@ use mathlib.Core.Bool.{true}
 use mathlib.Core.Path.{◌≡◌, refl}
 use borrow.Author.Tests.{eq-eqb, eqb-true}
 use lib.Dec.{eqb}
+use Rattle.std.specs.Prelude.{is_ok}
 use Rattle.numbers.specs.Refusals.{sizes_refusal, Sized}
 use Rattle.numbers.proofs.Tests.{both_left, both_right}
-use Rattle.numbers.proofs.refusals.Judging.{sizes-none, sizes-accepted}
+use Rattle.numbers.proofs.refusals.Judging.{ok_passed, sizes-none, sizes-accepted}
 use Rattle.expansions.specs.Classes.{most_mixed}
 use Rattle.expansions.specs.Numbered.{class_number, family_number}
 use Rattle.expansions.proofs.numbered.Equal.{class-equal, family-equal}
@@ -16,8 +17,8 @@ use Rattle.listing_texts.specs.Read.{alike}
 pub alike-sizes : (z y : Sizes) → alike z y ≡ true → Sized z.n z.m (most_mixed z.class) z.k × (y ≡ z)
 unfolding alike
 alike-sizes z y e =
-    let refusal = sizes_refusal z.n z.m (most_mixed z.class) z.k in
-    let one = both_right (eqb refusal 0) _ e in
+    let judged = is_ok (sizes_refusal z.n z.m (most_mixed z.class) z.k) in
+    let one = both_right judged _ e in
     let two = both_right (eqb y.n z.n) _ one in
     let three = both_right (eqb y.m z.m) _ two in
     let four = both_right (eqb y.k z.k) _ three in
@@ -29,7 +30,7 @@ alike-sizes z y e =
     let family : y.family ≡ z.family = family-equal y.family z.family (eqb-true (family_number y.family) (family_number z.family) (both_right C _ four)) in
     let whole : ◌≡◌ {A = Sizes} (record { n = y.n; m = y.m; class = y.class; k = y.k; family = y.family })
     (record { n = z.n; m = z.m; class = z.class; k = z.k; family = z.family }) = rw (n, m, class, k, family) in
-    (sizes-none z.n z.m (most_mixed z.class) z.k (eqb-true refusal 0 (both_left (eqb refusal 0) _ e)), whole)
+    (sizes-none z.n z.m (most_mixed z.class) z.k (ok_passed _ (both_left judged _ e)), whole)
 
 pub alike_self : (z : Sizes) → Sized z.n z.m (most_mixed z.class) z.k → alike z z ≡ true
 unfolding alike

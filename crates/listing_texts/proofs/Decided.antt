@@ -8,6 +8,9 @@ use Prim.Native.Nat.{ℕ, suc, ◌^◌, ◌<◌}
 use native.Mathlib.Decide.{dec_lt, ℕ_discrete}
 use native.Mathlib.Omega.{arith}
 use lib.ListN.{length, drop}
+use Rattle.std.specs.Prelude.{Option, Some, None}
+use Rattle.numbers.specs.declared.refusals.Refusal.{Refusal}
+use Rattle.numbers.specs.declared.refusals.Refusal.TheVariants.{BrokenListing, UnlikeListing}
 use Rattle.numbers.specs.Refusals.{Sized}
 use Rattle.expansions.specs.Classes.{most_mixed}
 use Rattle.expansions.specs.Costs.{products, literals}
@@ -15,8 +18,6 @@ use Rattle.listings.specs.Parts.{Parts, all, parts, bytes}
 use Rattle.listings.specs.Listing.{tabbed, line, output_bytes, form_word, form_line, inv_line, term_lines, listing_with}
 use Rattle.listings.proofs.Joined.{parts-lines}
 use Rattle.listings.proofs.Meaning.{plain-outputs, plain-inv}
-use Rattle.fields.specs.declared.values.Number.{Number}
-use Rattle.fields.specs.declared.values.Number.TheVariants.{Is, Wrong}
 use Rattle.lines.specs.FirstBad.{line_after, end_line}
 use Rattle.lines.proofs.FirstBad.{first-whole}
 use Rattle.lines.proofs.TermsDecided.{TermsFollow, TermsDecided, terms-decided}
@@ -34,14 +35,12 @@ use Rattle.listing_texts.proofs.BesideKronecker.{form-exactly, other-exactly, be
 
 -- a listing passes, or is refused
 abbrev ListingDecided : Sizes → List ℕ → Type 0
-ListingDecided z s = Passes z s ⊎ ((number : ℕ) × (line : ℕ) × ListingRefusal z s number line)
+ListingDecided z s = Passes z s ⊎ ((why : Refusal) × (line : ℕ) × ListingRefusal z s why line)
 
 -- ---- the second line
 
-wrong-is : {v : ℕ} → Wrong ≡ Is v → ⊥
-wrong-is e = let z : ◌≡◌ {A = ℕ} 0 1 = cc in omega arith
-
-inv-first : (m v : ℕ) (s rest : List ℕ) → v < 2 ^ m → s ≡ inv_line m v ++ rest → (inv_said m (parts 10 s).first ≡ Is v) × ((parts 10 s).others ≡ [] → ⊥)
+inv-first : (m v : ℕ) (s rest : List ℕ) → v < 2 ^ m → s ≡ inv_line m v ++ rest
+    → (inv_said m (parts 10 s).first ≡ Some v) × ((parts 10 s).others ≡ [] → ⊥)
 unfolding inv_line
 inv-first m v s rest h e =
     let split : parts 10 s ≡ record { first = bytes "inv" ++ tabbed (output_bytes m v ∷ []); others = all (parts 10 rest) } =
@@ -52,12 +51,12 @@ inv-first m v s rest h e =
 has-inv : (m : ℕ) (s : List ℕ) → ((v : ℕ) × (rest : List ℕ) × (v < 2 ^ m) × (s ≡ inv_line m v ++ rest)) ⊎ NoInv m s
 unfolding inv_line
 has-inv m s = go (dec_lt (length (parts 10 s).first) (length s)) where
-  by-line : length (parts 10 s).first < length s → (x : Number) → inv_said m (parts 10 s).first ≡ x
+  by-line : length (parts 10 s).first < length s → (x : Option ℕ) → inv_said m (parts 10 s).first ≡ x
       → ((v : ℕ) × (rest : List ℕ) × (v < 2 ^ m) × (s ≡ inv_line m v ++ rest)) ⊎ NoInv m s
-  by-line h (Is v) says =
+  by-line h (Some v) says =
       let inv = inv-read m (parts 10 s).first v says in
       inl (v, drop (suc (length (parts 10 s).first)) s, inv.1, split-joined s h (bytes "inv") (output_bytes m v ∷ []) inv.0)
-  by-line h Wrong says = inr (λ v rest l e. wrong-is (sym says ∙ (inv-first m v s rest l e).0))
+  by-line h None says = inr (λ v rest l e. cc ((inv-first m v s rest l e).0))
 
   go : Dec (length (parts 10 s).first < length s) → ((v : ℕ) × (rest : List ℕ) × (v < 2 ^ m) × (s ≡ inv_line m v ++ rest)) ⊎ NoInv m s
   go (yes h) = by-line h (inv_said m (parts 10 s).first) refl
@@ -87,8 +86,8 @@ module _ (z : Sizes) (s : List ℕ) (sized : Sized z.n z.m (most_mixed z.class) 
   counted g e = go (ℕ_discrete g.form.products (products z.n g.coefficient)) (ℕ_discrete g.form.literals (literals z.n g.coefficient)) where
     go : Dec (g.form.products ≡ products z.n g.coefficient) → Dec (g.form.literals ≡ literals z.n g.coefficient) → ListingDecided z s
     go (yes p) (yes l) = inl (all_pass g e p l)
-    go (no p) d = inr (12, 1, counts g (e, λ h. p h.0))
-    go (yes p) (no l) = inr (12, 1, counts g (e, λ h. l h.1))
+    go (no p) d = inr (UnlikeListing, 1, counts g (e, λ h. p h.0))
+    go (yes p) (no l) = inr (UnlikeListing, 1, counts g (e, λ h. l h.1))
 
   from-third : (l : FormListing s) → l.form.sizes ≡ z → (v : ℕ) (rest : List ℕ) → v < 2 ^ z.m → l.rest ≡ inv_line z.m v ++ rest → TermsDecided z.n z.m rest
       → ListingDecided z s
@@ -120,8 +119,8 @@ module _ (z : Sizes) (s : List ℕ) (sized : Sized z.n z.m (most_mixed z.class) 
 
     go : TermsFollow z.n z.m c.coefficient c.rest → ListingDecided z s
     go (TermsFollow.ends f) = counted g f
-    go (TermsFollow.bad none unended) = inr (11, line_after g.before, later g (none, unended))
-    go (TermsFollow.continues b more f) = inr (11, line_after (g.before ++ end_line), followed g b more f)
+    go (TermsFollow.bad none unended) = inr (BrokenListing, line_after g.before, later g (none, unended))
+    go (TermsFollow.continues b more f) = inr (BrokenListing, line_after (g.before ++ end_line), followed g b more f)
 
   -- ---- the first line
 
@@ -132,11 +131,11 @@ module _ (z : Sizes) (s : List ℕ) (sized : Sized z.n z.m (most_mixed z.class) 
 
     go : ((v : ℕ) × (rest : List ℕ) × (v < 2 ^ z.m) × (l.rest ≡ inv_line z.m v ++ rest)) ⊎ NoInv z.m l.rest → ListingDecided z s
     go (inl x) = from-third l same x.0 x.1 x.2 x.3 (terms-decided z.n z.m sized.inputs.1 sized.outputs.1 x.1)
-    go (inr none) = inr (11, 2, second l same none)
-  by_form l false a = inr (12, 1, unlike l (λ e. false≢true (sym a ∙ ap (alike z) e ∙ alike_self z sized)))
+    go (inr none) = inr (BrokenListing, 2, second l same none)
+  by_form l false a = inr (UnlikeListing, 1, unlike l (λ e. false≢true (sym a ∙ ap (alike z) e ∙ alike_self z sized)))
 
-  pub listing-decided : Passes z s ⊎ ((number : ℕ) × (line : ℕ) × ListingRefusal z s number line)
+  pub listing-decided : Passes z s ⊎ ((why : Refusal) × (line : ℕ) × ListingRefusal z s why line)
   listing-decided = go (beside-either s) where
-    go : (beside_kronecker s ≡ 11) ⊎ (beside_kronecker s ≡ 12) → ListingDecided z s
-    go (inl e) = inr (11, 1, first ((other-exactly s).0 e))
+    go : (beside_kronecker s ≡ BrokenListing) ⊎ (beside_kronecker s ≡ UnlikeListing) → ListingDecided z s
+    go (inl e) = inr (BrokenListing, 1, first ((other-exactly s).0 e))
     go (inr e) = let l = (form-exactly s).0 e in by_form l (alike z l.form.sizes) refl

@@ -10,6 +10,9 @@ use native.Mathlib.Omega.{arith}
 use borrow.Author.Tests.{eq-eqb, eqb-true}
 use lib.Dec.{eqb}
 use lib.ListN.{length, drop}
+use Rattle.std.specs.Prelude.{Option, Some, None}
+use Rattle.numbers.specs.declared.refusals.Refusal.{Refusal}
+use Rattle.numbers.specs.declared.refusals.Refusal.TheVariants.{BrokenListing, UnlikeListing}
 use Rattle.numbers.specs.Refusals.{Sized}
 use Rattle.numbers.proofs.Shifts.{points-le}
 use Rattle.numbers.proofs.Tests.{both_left, both_right}
@@ -23,17 +26,12 @@ use Rattle.listings.specs.Listing.{line, output_bytes, form_fields, form_word, f
 use Rattle.listings.proofs.Joined.{parts-lines}
 use Rattle.listings.proofs.Forms.{plain_fields}
 use Rattle.listings.proofs.Meaning.{plain_form, plain-outputs, plain-inv}
-use Rattle.fields.specs.declared.values.Number.{Number}
-use Rattle.fields.specs.declared.values.Number.TheVariants as number
-use Rattle.fields.specs.declared.values.Number.TheVariants.{Is}
 use Rattle.fields.specs.Fields.{and_then}
 use Rattle.lines.specs.Rows as lines
 use Rattle.lines.specs.Rows.{rows_from}
 use Rattle.lines.proofs.Terms.{TermRows, term-rows-read, term-rows-written}
 use Rattle.table_texts.specs.declared.sizes.Sizes.{Sizes}
 use Rattle.listing_texts.specs.declared.form.Form.{Form}
-use Rattle.listing_texts.specs.declared.form.FirstLine.{FirstLine}
-use Rattle.listing_texts.specs.declared.form.FirstLine.TheVariants.{States, Wrong}
 use Rattle.listing_texts.specs.Form.{first_line, stated_fields, Digits}
 use Rattle.listing_texts.specs.Inv.{inv_said}
 use Rattle.shown_rows.specs.Rows.{coefficient_in, complemented_in}
@@ -45,9 +43,6 @@ use Rattle.listing_texts.proofs.FormRead.{form-said, form-read}
 use Rattle.listing_texts.proofs.InvRead.{inv-said, inv-read}
 use Rattle.listing_texts.proofs.WrittenRows.{written_rows, row-coefficient}
 use Rattle.listing_texts.proofs.Opened.{reading-split, second-split, split-joined, reading-unfinished, second-unfinished}
-
-no-refusal : {number at v : ℕ} {f : Form} {t : List ℕ} → refused number at ≡ shown f v t → ⊥
-no-refusal e = let z : ◌≡◌ {A = ℕ} 0 1 = cc in omega arith
 
 -- the lines of a listing: its first line, its second, those of its products, and `end`
 listing-lines : (z : Sizes) (v M i : ℕ) (w c : ℕ → ℕ)
@@ -84,14 +79,14 @@ lines-passed : (n : ℕ) (g : Form) (u : ℕ) (f : Form) (v : ℕ) (r : lines.Ro
     → (r ≡ lines.rows t) × (g ≡ f) × (u ≡ v) × (counts_right n f t ≡ true)
 unfolding lines_judged
 lines-passed n g u f v (lines.rows x) t e = go _ _ (counts_right n g x) refl e where
-  go : (number at : ℕ) (b : Bool) → counts_right n g x ≡ b → cond b (shown g u x) (refused number at) ≡ shown f v t
+  go : (why : Refusal) (at : ℕ) (b : Bool) → counts_right n g x ≡ b → cond b (shown g u x) (refused why at) ≡ shown f v t
       → (lines.rows x ≡ lines.rows t) × (g ≡ f) × (u ≡ v) × (counts_right n f t ≡ true)
-  go number at true h e =
+  go why at true h e =
       let same : g ≡ f = cc in
       let rows : x ≡ t = cc in
       (ap lines.rows rows, same, cc, ap₂ (counts_right n) (sym same) (sym rows) ∙ h)
-  go number at false h e = absurd (no-refusal e)
-lines-passed n g u f v (lines.refused number at) t e = absurd (no-refusal e)
+  go why at false h e = cc
+lines-passed n g u f v (lines.refused why at) t e = cc
 
 -- what holds of the lines after the first, which are read as the mask v and the rows t
 record SecondIs (z : Sizes) (s : List ℕ) (g f : Form) (v : ℕ) (t : List ℕ) : Type 0 where
@@ -106,11 +101,11 @@ module _ (z : Sizes) (s : List ℕ) (g f : Form) (v : ℕ) (t : List ℕ) (sized
   abbrev after : List ℕ
   after = drop (suc (length (parts 10 s).first)) s
 
-  by-second : length (parts 10 s).first < length s → (x : Number) → inv_said z.m (parts 10 s).first ≡ x
-      → and_then x (refused 11 2) (λ u. lines_judged z.n g u (rows_from (grammar z) 3 after)) ≡ shown f v t → SecondIs z s g f v t
-  by-second h (Is u) says w =
+  by-second : length (parts 10 s).first < length s → (x : Option ℕ) → inv_said z.m (parts 10 s).first ≡ x
+      → and_then x (refused BrokenListing 2) (λ u. lines_judged z.n g u (rows_from (grammar z) 3 after)) ≡ shown f v t → SecondIs z s g f v t
+  by-second h (Some u) says w =
       let passed = lines-passed z.n g u f v (rows_from (grammar z) 3 after) t w in
-      let inv = inv-read z.m (parts 10 s).first v (says ∙ ap Is passed.2) in
+      let inv = inv-read z.m (parts 10 s).first v (says ∙ ap Some passed.2) in
       let terms = term-rows-read z.n z.m 3 after t sized.inputs.1 sized.outputs.1 passed.0 in
       record {
         form = passed.1;
@@ -121,13 +116,13 @@ module _ (z : Sizes) (s : List ℕ) (g f : Form) (v : ℕ) (t : List ℕ) (sized
             split-joined s h (bytes "inv") (output_bytes z.m v ∷ []) inv.0
             ∙ ap (λ (r : List ℕ). line (bytes "inv") (output_bytes z.m v ∷ []) ++ r) terms.0;
       }
-  by-second h number.Wrong says w = absurd (no-refusal w)
+  by-second h None says w = cc
 
   second-read : second_at z g s 0 ≡ shown f v t → SecondIs z s g f v t
   second-read e = go (dec_lt (length (parts 10 s).first) (length s)) where
     go : Dec (length (parts 10 s).first < length s) → SecondIs z s g f v t
     go (yes h) = by-second h (inv_said z.m (parts 10 s).first) refl (sym (second-split s h z g) ∙ e)
-    go (no h) = absurd (no-refusal (sym (second-unfinished s (omega arith) z g) ∙ e))
+    go (no h) = cc (second-unfinished s (omega arith) z g)
 
 module _ (z : Sizes) (s : List ℕ) (f : Form) (v : ℕ) (t : List ℕ) where
   abbrev first : List ℕ
@@ -136,12 +131,12 @@ module _ (z : Sizes) (s : List ℕ) (f : Form) (v : ℕ) (t : List ℕ) where
   abbrev rest : List ℕ
   rest = drop (suc (length (parts 10 s).first)) s
 
-  by-sizes : length first < length s → (g : Form) → first_line first ≡ States g → (b : Bool) → alike z g.sizes ≡ b
-      → cond b (second_at z g rest 0) (refused 12 1) ≡ shown f v t → ListingIs z s f v t
+  by-sizes : length first < length s → (g : Form) → first_line first ≡ Some g → (b : Bool) → alike z g.sizes ≡ b
+      → cond b (second_at z g rest 0) (refused UnlikeListing 1) ≡ shown f v t → ListingIs z s f v t
   by-sizes h g says true same w =
       let legal = alike-sizes z g.sizes same in
       let second = second-read z rest g f v t legal.0 w in
-      let form = form-read first f (says ∙ ap States second.form) in
+      let form = form-read first f (says ∙ ap Some second.form) in
       let counts = counts-right z.n f t second.counts in
       let sizes : f.sizes ≡ z = ap (λ (x : Form). x.sizes) (sym second.form) ∙ legal.1 in
       let fields : List (List ℕ) =
@@ -162,17 +157,18 @@ module _ (z : Sizes) (s : List ℕ) (f : Form) (v : ℕ) (t : List ℕ) where
             ∙ ap (λ (r : List ℕ). line (form_word z.family) fields ++ r) second.characters
             ∙ sym (listing-lines z v f.mixed f.fixed (complemented_in t) (coefficient_in t));
       }
-  by-sizes h g says false same w = absurd (no-refusal w)
+  by-sizes h g says false same w = cc
 
-  by_first : length first < length s → (x : FirstLine) → first_line first ≡ x → first_judged x z (λ g. second_at z g rest 0) ≡ shown f v t → ListingIs z s f v t
-  by_first h (States g) says w = by-sizes h g says (alike z g.sizes) refl w
-  by_first h Wrong says w = absurd (no-refusal w)
+  by_first : length first < length s → (x : Option Form) → first_line first ≡ x → first_judged x z (λ g. second_at z g rest 0) ≡ shown f v t
+      → ListingIs z s f v t
+  by_first h (Some g) says w = by-sizes h g says (alike z g.sizes) refl w
+  by_first h None says w = cc
 
   pub listing-read : listing_reading z s ≡ shown f v t → ListingIs z s f v t
   listing-read e = go (dec_lt (length first) (length s)) where
     go : Dec (length first < length s) → ListingIs z s f v t
     go (yes h) = by_first h (first_line first) refl (sym (reading-split s h z) ∙ e)
-    go (no h) = absurd (no-refusal (sym (reading-unfinished s (omega arith) z) ∙ e))
+    go (no h) = cc (reading-unfinished s (omega arith) z)
 
 -- ---- a listing that is written
 

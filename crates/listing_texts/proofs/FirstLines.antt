@@ -9,6 +9,9 @@ use Prim.Native.Nat.{ℕ, suc, ◌+◌, ◌^◌, ◌≤◌, ◌<◌}
 use native.Mathlib.Omega.{arith}
 use lib.Dec.{lit≤}
 use lib.ListN.{length, replicate}
+use Rattle.std.specs.Prelude.{Option, Some, None}
+use Rattle.numbers.specs.declared.refusals.Refusal.{Refusal}
+use Rattle.numbers.specs.declared.refusals.Refusal.TheVariants.{TextEnd, BrokenListing, UnlikeListing}
 use Rattle.numbers.specs.Refusals.{Sized}
 use Rattle.numbers.proofs.Shifts.{points-le}
 use Rattle.expansions.specs.declared.families.Family.{Family}
@@ -19,8 +22,6 @@ use Rattle.listings.specs.Listing.{line, output_bytes, form_word, inv_line, term
 use Rattle.listings.proofs.Joined.{parts-lines}
 use Rattle.listings.proofs.Meaning.{plain_form, plain-outputs, plain-inv}
 use Rattle.listings.proofs.Parts.{others-le}
-use Rattle.fields.specs.declared.values.Number.{Number}
-use Rattle.fields.specs.declared.values.Number.TheVariants as number
 use Rattle.fields.specs.Fields.{and_then}
 use Rattle.lines.specs.Rows as lines
 use Rattle.lines.specs.Rows.{rows_from}
@@ -30,8 +31,6 @@ use Rattle.lines.proofs.Refusals.{RowsRefusedIn, rows-refused-in}
 use Rattle.lines.proofs.Terms.{term-rows-written, terms-bad, terms-followed}
 use Rattle.table_texts.specs.declared.sizes.Sizes.{Sizes}
 use Rattle.listing_texts.specs.declared.form.Form.{Form}
-use Rattle.listing_texts.specs.declared.form.FirstLine.{FirstLine}
-use Rattle.listing_texts.specs.declared.form.FirstLine.TheVariants.{States, Wrong}
 use Rattle.listing_texts.specs.Form.{first_line, stated_fields}
 use Rattle.listing_texts.specs.Inv.{inv_said}
 use Rattle.shown_rows.specs.Rows.{coefficient_in}
@@ -85,22 +84,25 @@ module _ (z : Sizes) (s : List ℕ) (sized : Sized z.n z.m (most_mixed z.class) 
         inv-said z.m g.inverted g.mask,
       )
 
-  refused-at : (r : List ℕ) (x l : ℕ) → g.rest ≡ r → rows_from (grammar z) (line_after two) (terms ++ r) ≡ lines.refused x l → listing_reading z s ≡ refused 11 l
+  refused-at : (r : List ℕ) (x : Refusal) (l : ℕ) → g.rest ≡ r → rows_from (grammar z) (line_after two) (terms ++ r) ≡ lines.refused x l
+      → listing_reading z s ≡ refused BrokenListing l
   unfolding lines_judged
   refused-at r x l er e =
       from-third
       ∙ ap (λ (y : lines.RowsRead). lines_judged z.n g.form g.inverted y)
       (ap (λ (r : List ℕ). rows_from (grammar z) 3 (terms ++ r)) er ∙ ap (λ (i : ℕ). rows_from (grammar z) i (terms ++ r)) (sym third) ∙ e)
 
-  pub next-refused : BadNext z s g → listing_reading z s ≡ refused 11 (line_after g.before)
+  pub next-refused : BadNext z s g → listing_reading z s ≡ refused BrokenListing (line_after g.before)
   next-refused bad =
       let e = terms-bad z.n z.m g.polarity g.coefficient sized.inputs.1 sized.outputs.1 g.outputs two g.rest bad.0 bad.1 in
-      refused-at g.rest e.0 (line_after (two ++ terms)) refl e.1 ∙ ap (λ (b : List ℕ). refused 11 (line_after b)) (sym before-is)
+      refused-at g.rest e.0 (line_after (two ++ terms)) refl e.1 ∙ ap (λ (b : List ℕ). refused BrokenListing (line_after b)) (sym before-is)
 
-  pub follow-refused : (b : ℕ) (more : List ℕ) → g.rest ≡ end_line ++ b ∷ more → listing_reading z s ≡ refused 11 (line_after (g.before ++ end_line))
+  pub follow-refused : (b : ℕ) (more : List ℕ) → g.rest ≡ end_line ++ b ∷ more
+      → listing_reading z s ≡ refused BrokenListing (line_after (g.before ++ end_line))
   follow-refused b more er =
       let e = terms-followed z.n z.m g.polarity g.coefficient sized.inputs.1 sized.outputs.1 g.outputs two b more in
-      refused-at (end_line ++ b ∷ more) 6 (line_after (two ++ terms ++ end_line)) er e ∙ ap (λ (b : List ℕ). refused 11 (line_after (b ++ end_line))) (sym before-is)
+      refused-at (end_line ++ b ∷ more) TextEnd (line_after (two ++ terms ++ end_line)) er e
+      ∙ ap (λ (b : List ℕ). refused BrokenListing (line_after (b ++ end_line))) (sym before-is)
 
   -- the rows of the lines, and the coefficients that they show
   abbrev rows : List ℕ
@@ -109,16 +111,16 @@ module _ (z : Sizes) (s : List ℕ) (sized : Sized z.n z.m (most_mixed z.class) 
   same : (t : ℕ) → t < 2 ^ z.n → coefficient_in rows t ≡ g.coefficient t
   same = row-coefficient z.n g.polarity g.coefficient sized.inputs.1 (λ t h. omega (arith, g.outputs t h, points-le z.m sized.outputs.1))
 
-  counts-judged : CountsUnlike z s g → lines_judged z.n g.form g.inverted (lines.rows rows) ≡ refused 12 1
+  counts-judged : CountsUnlike z s g → lines_judged z.n g.form g.inverted (lines.rows rows) ≡ refused UnlikeListing 1
   unfolding lines_judged
   counts-judged unlike = go (counts_right z.n g.form rows) refl where
-    go : (b : Bool) → counts_right z.n g.form rows ≡ b → cond b (shown g.form g.inverted rows) (refused 12 1) ≡ refused 12 1
+    go : (b : Bool) → counts_right z.n g.form rows ≡ b → cond b (shown g.form g.inverted rows) (refused UnlikeListing 1) ≡ refused UnlikeListing 1
     go true h =
         let c = counts-right z.n g.form rows h in
         absurd (unlike.1 (c.0 ∙ products-ext z.n (coefficient_in rows) g.coefficient same, c.1 ∙ literals-ext z.n (coefficient_in rows) g.coefficient same))
     go false h = refl
 
-  pub counts-refused : CountsUnlike z s g → listing_reading z s ≡ refused 12 1
+  pub counts-refused : CountsUnlike z s g → listing_reading z s ≡ refused UnlikeListing 1
   unfolding written_rows
   counts-refused unlike =
       from-third
@@ -132,15 +134,15 @@ module _ (z : Sizes) (s : List ℕ) (sized : Sized z.n z.m (most_mixed z.class) 
 -- "11 with its line in the listing", from the line `least` to the line `most`, or "12 with line 1"
 abbrev pub Told : (least most : ℕ) → ListingReading → Type 0
 Told least most (shown f v t) = Unit
-Told least most (refused number line) = ((number ≡ 11) × (least ≤ line) × (line ≤ most)) ⊎ ((number ≡ 12) × (line ≡ 1))
+Told least most (refused why line) = ((why ≡ BrokenListing) × (least ≤ line) × (line ≤ most)) ⊎ ((why ≡ UnlikeListing) × (line ≡ 1))
 
 lines-told : (n : ℕ) (f : Form) (v most : ℕ) (x : lines.RowsRead) → RowsRefusedIn 3 most x → Told 2 most (lines_judged n f v x)
 unfolding lines_judged
 lines-told n f v most (lines.rows t) h = go (counts_right n f t) where
-  go : (b : Bool) → Told 2 most (cond b (shown f v t) (refused 12 1))
+  go : (b : Bool) → Told 2 most (cond b (shown f v t) (refused UnlikeListing 1))
   go true = tt
   go false = inr (refl, refl)
-lines-told n f v most (lines.refused number line) h = inl (refl, omega (arith, h.1.0), h.1.1)
+lines-told n f v most (lines.refused why line) h = inl (refl, omega (arith, h.1.0), h.1.1)
 
 second-told : (z : Sizes) (f : Form) (l : List ℕ) (ls : List (List ℕ)) → Told 2 (2 + length ls) (from_second z f l ls)
 unfolding from_second
@@ -149,38 +151,38 @@ second-told z f l (l' ∷ ls) = go (inv_said z.m l) where
   more : 3 + length ls ≡ 2 + suc (length ls)
   more = omega arith
 
-  go : (x : Number)
+  go : (x : Option ℕ)
       → Told 2 (2 + suc (length ls))
-      (and_then x (refused 11 2) (λ v. lines_judged z.n f v (lines.later_lines (lines.row_line (grammar z)) z.n 3 0 (replicate 256 0) l' ls)))
-  go (number.Is v) =
+      (and_then x (refused BrokenListing 2) (λ v. lines_judged z.n f v (lines.later_lines (lines.row_line (grammar z)) z.n 3 0 (replicate 256 0) l' ls)))
+  go (Some v) =
       rw (← more) (lines-told z.n f v (3 + length ls) _ (rows-refused-in (lines.row_line (grammar z)) z.n ls 3 0 (replicate 256 0) l'))
-  go number.Wrong = inl (refl, lit≤ tt, omega arith)
+  go None = inl (refl, lit≤ tt, omega arith)
 
 -- a first line that states something: the refusal is not 11 with line 1
-stated-told : (z : Sizes) (f : Form) (l : List ℕ) (ls : List (List ℕ)) → Told 2 (2 + length ls) (first_judged (States f) z (λ f. from_second z f l ls))
+stated-told : (z : Sizes) (f : Form) (l : List ℕ) (ls : List (List ℕ)) → Told 2 (2 + length ls) (first_judged (Some f) z (λ f. from_second z f l ls))
 stated-told z f l ls = go (alike z f.sizes) where
-  go : (b : Bool) → Told 2 (2 + length ls) (cond b (from_second z f l ls) (refused 12 1))
+  go : (b : Bool) → Told 2 (2 + length ls) (cond b (from_second z f l ls) (refused UnlikeListing 1))
   go true = second-told z f l ls
   go false = inr (refl, refl)
 
 widen : (a b c d : ℕ) (x : ListingReading) → c ≤ a → b ≤ d → Told a b x → Told c d x
 widen a b c d (shown f v t) low high h = tt
-widen a b c d (refused number line) low high (inl h) = inl (h.0, omega (arith, h.1), omega (arith, h.2))
-widen a b c d (refused number line) low high (inr h) = inr h
+widen a b c d (refused why line) low high (inl h) = inl (h.0, omega (arith, h.1), omega (arith, h.2))
+widen a b c d (refused why line) low high (inr h) = inr h
 
-not_first : (most : ℕ) (x : ListingReading) → Told 2 most x → x ≡ refused 11 1 → ⊥
-not_first most (shown f v t) h e = let z : ◌≡◌ {A = ℕ} 0 1 = cc in omega arith
-not_first most (refused number line) (inl h) e = let one : line ≡ 1 = cc in omega (arith, h.1)
-not_first most (refused number line) (inr h) e = let eleven : number ≡ 11 = cc in omega (arith, h.0)
+not_first : (most : ℕ) (x : ListingReading) → Told 2 most x → x ≡ refused BrokenListing 1 → ⊥
+not_first most (shown f v t) h e = cc
+not_first most (refused why line) (inl h) e = let one : line ≡ 1 = cc in omega (arith, h.1)
+not_first most (refused why line) (inr h) e = cc
 
 all_told : (z : Sizes) (l : List ℕ) (ls : List (List ℕ)) → Told 1 (1 + length ls) (all_lines z l ls)
 unfolding all_lines
 all_told z l [] = inl (refl, lit≤ tt, omega arith)
 all_told z l (l' ∷ ls) = go (first_line l) where
-  go : (x : FirstLine) → Told 1 (1 + suc (length ls)) (first_judged x z (λ f. from_second z f l' ls))
-  go (States f) =
-      widen 2 (2 + length ls) 1 (1 + suc (length ls)) (first_judged (States f) z (λ f. from_second z f l' ls)) (lit≤ tt) (omega arith) (stated-told z f l' ls)
-  go Wrong = inl (refl, lit≤ tt, omega arith)
+  go : (x : Option Form) → Told 1 (1 + suc (length ls)) (first_judged x z (λ f. from_second z f l' ls))
+  go (Some f) =
+      widen 2 (2 + length ls) 1 (1 + suc (length ls)) (first_judged (Some f) z (λ f. from_second z f l' ls)) (lit≤ tt) (omega arith) (stated-told z f l' ls)
+  go None = inl (refl, lit≤ tt, omega arith)
 
 pub reading-told : (z : Sizes) (s : List ℕ) → Told 1 (1 + length s) (listing_reading z s)
 unfolding listing_reading
@@ -188,18 +190,18 @@ reading-told z s =
     widen 1 (1 + length (parts 10 s).others) 1 (1 + length s) (all_lines z (parts 10 s).first (parts 10 s).others) (lit≤ tt) (omega (arith, others-le 10 s))
     (all_told z (parts 10 s).first (parts 10 s).others)
 
-all_first : (z : Sizes) (l : List ℕ) (ls : List (List ℕ)) → (all_lines z l ls ≡ refused 11 1) ↔ (beside_lines l ls ≡ 11)
+all_first : (z : Sizes) (l : List ℕ) (ls : List (List ℕ)) → (all_lines z l ls ≡ refused BrokenListing 1) ↔ (beside_lines l ls ≡ BrokenListing)
 unfolding all_lines beside_lines
 all_first z l [] = ((λ e. refl), (λ e. refl))
 all_first z l (l' ∷ ls) = go (first_line l) where
-  go : (x : FirstLine) → (first_judged x z (λ f. from_second z f l' ls) ≡ refused 11 1) ↔ (beside_line x ≡ 11)
-  go (States f) = (
-    (λ e. absurd (not_first (2 + length ls) (first_judged (States f) z (λ f. from_second z f l' ls)) (stated-told z f l' ls) e)),
-    (λ e. absurd (omega arith)),
+  go : (x : Option Form) → (first_judged x z (λ f. from_second z f l' ls) ≡ refused BrokenListing 1) ↔ (beside_line x ≡ BrokenListing)
+  go (Some f) = (
+    (λ e. absurd (not_first (2 + length ls) (first_judged (Some f) z (λ f. from_second z f l' ls)) (stated-told z f l' ls) e)),
+    (λ e. cc),
   )
-  go Wrong = ((λ e. refl), (λ e. refl))
+  go None = ((λ e. refl), (λ e. refl))
 
 -- 11 with line 1, as beside a `K` table
-pub first-told : (z : Sizes) (s : List ℕ) → (listing_reading z s ≡ refused 11 1) ↔ (beside_kronecker s ≡ 11)
+pub first-told : (z : Sizes) (s : List ℕ) → (listing_reading z s ≡ refused BrokenListing 1) ↔ (beside_kronecker s ≡ BrokenListing)
 unfolding listing_reading beside_kronecker
 first-told z s = all_first z (parts 10 s).first (parts 10 s).others

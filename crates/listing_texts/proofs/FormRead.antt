@@ -4,8 +4,8 @@ use mathlib.Core.Bool.{false}
 use mathlib.Core.List.{List, ◌++◌}
 use mathlib.Core.Path.{◌≡◌, refl, ap, ◌∙◌}
 use Prim.Native.Nat.{ℕ}
-use native.Mathlib.Omega.{arith}
 use lib.Dec.{lit≤}
+use Rattle.std.specs.Prelude.{Option, Some, None}
 use Rattle.expansions.specs.declared.families.Family.{Family}
 use Rattle.expansions.specs.declared.families.Family.TheVariants.{One, Two}
 use Rattle.listings.specs.Parts.{parts, bytes, same, field, fields}
@@ -13,22 +13,14 @@ use Rattle.listings.specs.Listing.{tabbed, form_word}
 use Rattle.listings.proofs.Joined.{AllPlain, parts-fields}
 use Rattle.listings.proofs.Forms.{plain_fields}
 use Rattle.listings.proofs.Meaning.{plain_form}
-use Rattle.fields.specs.declared.words.FamilyRead.{FamilyRead}
 use Rattle.fields.specs.declared.heading.Heading.{Heading}
-use Rattle.fields.specs.declared.heading.Heading.TheVariants as heading
-use Rattle.fields.specs.declared.values.Number.{Number}
-use Rattle.fields.specs.declared.values.Number.TheVariants as number
-use Rattle.fields.specs.declared.values.MixedRead.{MixedRead}
-use Rattle.fields.specs.declared.values.MixedRead.TheVariants as mixed
+use Rattle.fields.specs.declared.values.Mixed.{Mixed}
 use Rattle.fields.specs.Fields.{number, family_of, heading_said}
 use Rattle.fields.proofs.Written.{number-decimal, mixed_is_said}
 use Rattle.fields.proofs.FieldsRead.{number_read, mixed-read}
 use Rattle.fields.proofs.Headed.{list-each, family-said, family-read, heading-fields}
 use Rattle.table_texts.specs.declared.sizes.Sizes.{Sizes}
 use Rattle.listing_texts.specs.declared.form.Form.{Form}
-use Rattle.listing_texts.specs.declared.form.FirstLine.TheVariants.{States, Wrong}
-use Rattle.listing_texts.specs.declared.form.SizesRead.{SizesRead}
-use Rattle.listing_texts.specs.declared.form.SizesRead.TheVariants as sizes
 use Rattle.listing_texts.specs.Form.{sizes_of, form_of, first_line, stated_fields, Digits}
 
 -- ---- the line that is written
@@ -40,7 +32,7 @@ other_word : same (form_word Two) (form_word One) ≡ false
 unfolding form_word bytes same
 other_word = refl
 
-pub form-said : (f : Form) → Digits f → first_line (form_word f.sizes.family ++ tabbed (stated_fields f)) ≡ States f
+pub form-said : (f : Form) → Digits f → first_line (form_word f.sizes.family ++ tabbed (stated_fields f)) ≡ Some f
 unfolding first_line fields
 form-said f d =
     let family : Family = f.sizes.family in
@@ -58,63 +50,48 @@ form-said f d =
 
 -- ---- a line that is read
 
-wrong-states : {f : Form} → Wrong ≡ States f → ⊥
-wrong-states e = let z : ◌≡◌ {A = ℕ} 0 1 = cc in omega arith
-
-wrong-sizes : {z : Sizes} → sizes.Wrong ≡ sizes.Are z → ⊥
-wrong-sizes e = let z : ◌≡◌ {A = ℕ} 0 1 = cc in omega arith
-
 -- what the fields of the sizes say
-record SizesSaid (h : Heading) (k : MixedRead) (z : Sizes) : Type 0 where
-  heading_is_said : h ≡ heading.Is z.family z.n z.m
-  k_said : k ≡ mixed.Is z.class z.k
+record SizesSaid (h : Option Heading) (k : Option Mixed) (z : Sizes) : Type 0 where
+  heading_is_said : h ≡ Some (record { family = z.family; n = z.n; m = z.m })
+  k_said : k ≡ Some (record { class = z.class; k = z.k })
 
-sizes-fields : (h : Heading) (k : MixedRead) (z : Sizes) → sizes_of h k ≡ sizes.Are z → SizesSaid h k z
-sizes-fields (heading.Is F n m) (mixed.Is C k) z e =
-    let same : record { n = n; m = m; class = C; k = k; family = F } ≡ z = cc in
-    record {
-      heading_is_said = ap (λ (y : Sizes). heading.Is y.family y.n y.m) same;
-      k_said = ap (λ (y : Sizes). mixed.Is y.class y.k) same;
-    }
-sizes-fields (heading.Is F n m) mixed.Wrong z e = absurd (wrong-sizes e)
-sizes-fields heading.Wrong k z e = absurd (wrong-sizes e)
+sizes-fields : (h : Option Heading) (k : Option Mixed) (z : Sizes) → sizes_of h k ≡ Some z → SizesSaid h k z
+sizes-fields (Some h) (Some x) z e =
+    let same : record { n = h.n; m = h.m; class = x.class; k = x.k; family = h.family } ≡ z = cc in
+    rw (← same) (record { heading_is_said = refl; k_said = refl })
+sizes-fields (Some h) None z e = cc
+sizes-fields None k z e = cc
 
 -- what the other fields say
-record Said (z : SizesRead) (M i p l : Number) (f : Form) : Type 0 where
-  sizes_said : z ≡ sizes.Are f.sizes
-  mixed_is_said : M ≡ number.Is f.mixed
-  fixed_said : i ≡ number.Is f.fixed
-  products_said : p ≡ number.Is f.products
-  literals_said : l ≡ number.Is f.literals
+record Said (z : Option Sizes) (M i p l : Option ℕ) (f : Form) : Type 0 where
+  sizes_said : z ≡ Some f.sizes
+  mixed_is_said : M ≡ Some f.mixed
+  fixed_said : i ≡ Some f.fixed
+  products_said : p ≡ Some f.products
+  literals_said : l ≡ Some f.literals
 
-form-fields : (z : SizesRead) (M i p l : Number) (f : Form) → form_of z M i p l ≡ States f → Said z M i p l f
-form-fields (sizes.Are z) (number.Is M) (number.Is i) (number.Is p) (number.Is l) f e =
+form-fields : (z : Option Sizes) (M i p l : Option ℕ) (f : Form) → form_of z M i p l ≡ Some f → Said z M i p l f
+form-fields (Some z) (Some M) (Some i) (Some p) (Some l) f e =
     let same : record { sizes = z; mixed = M; fixed = i; products = p; literals = l } ≡ f = cc in
-    record {
-      sizes_said = ap (λ (g : Form). sizes.Are g.sizes) same;
-      mixed_is_said = ap (λ (g : Form). number.Is g.mixed) same;
-      fixed_said = ap (λ (g : Form). number.Is g.fixed) same;
-      products_said = ap (λ (g : Form). number.Is g.products) same;
-      literals_said = ap (λ (g : Form). number.Is g.literals) same;
-    }
-form-fields (sizes.Are z) (number.Is M) (number.Is i) (number.Is p) number.Wrong f e = absurd (wrong-states e)
-form-fields (sizes.Are z) (number.Is M) (number.Is i) number.Wrong l f e = absurd (wrong-states e)
-form-fields (sizes.Are z) (number.Is M) number.Wrong p l f e = absurd (wrong-states e)
-form-fields (sizes.Are z) number.Wrong i p l f e = absurd (wrong-states e)
-form-fields sizes.Wrong M i p l f e = absurd (wrong-states e)
+    rw (← same) (record { sizes_said = refl; mixed_is_said = refl; fixed_said = refl; products_said = refl; literals_said = refl })
+form-fields (Some z) (Some M) (Some i) (Some p) None f e = cc
+form-fields (Some z) (Some M) (Some i) None l f e = cc
+form-fields (Some z) (Some M) None p l f e = cc
+form-fields (Some z) None i p l f e = cc
+form-fields None M i p l f e = cc
 
-pub form-read : (l : List ℕ) (f : Form) → first_line l ≡ States f
+pub form-read : (l : List ℕ) (f : Form) → first_line l ≡ Some f
     → (l ≡ form_word f.sizes.family ++ tabbed (stated_fields f)) × Digits f
 unfolding first_line fields
 form-read l f e =
-    let x : FamilyRead = family_of 8 (form_word One) (form_word Two) l in
+    let x : Option Family = family_of 8 (form_word One) (form_word Two) l in
     let said = form-fields _ _ _ _ _ f e in
     let sizes = sizes-fields (heading_said x (number 4 (field 1 l)) (number 4 (field 2 l))) _ f.sizes said.sizes_said in
-    let head = heading-fields x (number 4 (field 1 l)) (number 4 (field 2 l)) _ _ _ sizes.heading_is_said in
+    let head = heading-fields x (number 4 (field 1 l)) (number 4 (field 2 l)) _ sizes.heading_is_said in
     let shape = family-read form_word 7 l f.sizes.family head.0 in
     let n = number_read 4 (field 1 l) _ (lit≤ tt) head.1 in
     let m = number_read 4 (field 2 l) _ (lit≤ tt) head.2 in
-    let k = mixed-read (field 3 l) _ _ sizes.k_said in
+    let k = mixed-read (field 3 l) _ sizes.k_said in
     let M = number_read 4 (field 4 l) _ (lit≤ tt) said.mixed_is_said in
     let i = number_read 4 (field 5 l) _ (lit≤ tt) said.fixed_said in
     let p = number_read 4 (field 6 l) _ (lit≤ tt) said.products_said in

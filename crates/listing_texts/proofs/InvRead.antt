@@ -3,11 +3,11 @@
 use mathlib.Core.List.{List, [], ◌∷◌, ◌++◌}
 use mathlib.Core.Path.{◌≡◌, ap, ◌∙◌}
 use Prim.Native.Nat.{ℕ, ◌^◌, ◌<◌}
+use Rattle.std.specs.Prelude.{Some}
 use Rattle.listings.specs.Parts.{bytes, same, field, fields}
 use Rattle.listings.specs.Listing.{tabbed, output_bytes}
 use Rattle.listings.proofs.Joined.{parts-fields}
 use Rattle.listings.proofs.Meaning.{plain-outputs, plain-inv}
-use Rattle.fields.specs.declared.values.Number.TheVariants.{Is}
 use Rattle.fields.specs.Fields.{mask, headed}
 use Rattle.fields.proofs.Numbers.{under-test, mask_lt}
 use Rattle.fields.proofs.Written.{mask-written}
@@ -15,11 +15,11 @@ use Rattle.fields.proofs.FieldsRead.{mask-read}
 use Rattle.fields.proofs.Headed.{headed-fields}
 use Rattle.listing_texts.specs.Inv.{inv_said}
 
-pub inv-said : (m v : ℕ) → v < 2 ^ m → inv_said m (bytes "inv" ++ tabbed (output_bytes m v ∷ [])) ≡ Is v
+pub inv-said : (m v : ℕ) → v < 2 ^ m → inv_said m (bytes "inv" ++ tabbed (output_bytes m v ∷ [])) ≡ Some v
 unfolding inv_said headed fields same bytes
 inv-said m v h = rw (parts-fields (bytes "inv") (output_bytes m v ∷ []) plain-inv (plain-outputs m v, tt)) (mask-written m v h)
 
-pub inv-read : (m : ℕ) (l : List ℕ) (v : ℕ) → inv_said m l ≡ Is v → (l ≡ bytes "inv" ++ tabbed (output_bytes m v ∷ [])) × (v < 2 ^ m)
+pub inv-read : (m : ℕ) (l : List ℕ) (v : ℕ) → inv_said m l ≡ Some v → (l ≡ bytes "inv" ++ tabbed (output_bytes m v ∷ [])) × (v < 2 ^ m)
 unfolding inv_said
 inv-read m l v e =
     let passes = under-test (headed 2 (bytes "inv") l) (mask m (field 1 l)) v e in (

@@ -3,6 +3,7 @@ use mathlib.Core.List.{List, ◌++◌}
 use mathlib.Core.Path.{◌≡◌, ap, ◌∙◌}
 use Prim.Native.Nat.{ℕ, suc, ◌≤◌, ◌<◌}
 use lib.ListN.{length, drop}
+use Rattle.numbers.specs.declared.refusals.Refusal.TheVariants.{BrokenListing}
 use Rattle.listings.specs.Parts.{parts}
 use Rattle.listings.specs.Listing.{tabbed, line}
 use Rattle.listings.proofs.Parts.{others-none, others-more}
@@ -23,7 +24,7 @@ opened z l s = first_judged (first_line l) z (λ f. second_at z f s 0)
 
 -- what a listing means whose first line states f, whose second line is l, without its byte 10, and is followed by s
 abbrev pub opened_second : Sizes → Form → List ℕ → List ℕ → ListingReading
-opened_second z f l s = and_then (inv_said z.m l) (refused 11 2) (λ v. lines_judged z.n f v (rows_from (grammar z) 3 s))
+opened_second z f l s = and_then (inv_said z.m l) (refused BrokenListing 2) (λ v. lines_judged z.n f v (rows_from (grammar z) 3 s))
 
 -- ---- where byte 10 ends the line
 
@@ -44,10 +45,10 @@ module _ (s : List ℕ) (h : length (parts 10 s).first < length s) where
 -- ---- where none does
 
 module _ (s : List ℕ) (h : length s ≤ length (parts 10 s).first) where
-  pub reading-unfinished : (z : Sizes) → listing_reading z s ≡ refused 11 1
+  pub reading-unfinished : (z : Sizes) → listing_reading z s ≡ refused BrokenListing 1
   unfolding listing_reading all_lines
   reading-unfinished z = ap (all_lines z (parts 10 s).first) (others-none 10 s h)
 
-  pub second-unfinished : (z : Sizes) (f : Form) → second_at z f s 0 ≡ refused 11 2
+  pub second-unfinished : (z : Sizes) (f : Form) → second_at z f s 0 ≡ refused BrokenListing 2
   unfolding from_second
   second-unfinished z f = ap (from_second z f (parts 10 s).first) (others-none 10 s h)

@@ -2,7 +2,7 @@
 -- (`record-read`, `yields-record`); for an answer's record that is the whole record (`answer-read`).
 use mathlib.Core.Bool.{Bool, true, false}
 use mathlib.Core.List.{List}
-use mathlib.Core.Path.{◌≡◌, refl, sym, ap, ◌∙◌, subst}
+use mathlib.Core.Path.{◌≡◌, refl, sym, ap, ◌∙◌}
 use Prim.Native.Nat.{ℕ, ◌-◌, ◌%◌, ◌^◌, ◌≤◌, ◌<◌}
 use native.Mathlib.Omega.{arith}
 use borrow.Author.Tests.{lt-ltb, ltb-true, ltb-false, eq-eqb}
@@ -12,6 +12,8 @@ use lib.ListN.{length}
 use lib.Pow.{pow_mono}
 use Rattle.numbers.specs.Bits.{bit}
 use Rattle.numbers.specs.Bytes.{at, tabulate}
+use Rattle.std.specs.Prelude.{Result, Ok}
+use Rattle.numbers.specs.declared.refusals.Refused.{Refused}
 use Rattle.numbers.specs.Refusals.{Sized}
 use Rattle.numbers.specs.Tests.{only}
 use Rattle.numbers.proofs.Bytes.{length-tabulate, at-tabulate, is-table, tabulate-ext}
@@ -32,7 +34,6 @@ use Rattle.search.proofs.expansion.Answer.{answer_expansion-is, expansion-coeffi
 use Rattle.listings.specs.Listing.{listing}
 use Rattle.table_texts.specs.declared.sizes.Sizes.{Sizes}
 use Rattle.listing_texts.specs.declared.read.ListingRead.{ListingRead}
-use Rattle.listing_texts.specs.declared.read.ListingAnswer.TheVariants.{Given}
 use Rattle.shown_rows.specs.Rows.{coefficient_in, complemented_in, shown_blocks}
 use Rattle.listing_texts.specs.Read.{listing_reading, shown}
 use Rattle.listing_texts.specs.Listings.{term_listing}
@@ -145,11 +146,14 @@ module _ (z : Sizes) (e : Expansion) (sized : Sized z.n z.m (most_mixed z.class)
       at-tabulate 256 (complemented_in rows) t (omega (arith, points-le z.n sized.inputs.1))
       ∙ row-complemented z.n w c sized.inputs.1 bytes_small t h
 
-  had-back : HadBack z e (record { answer = Given; expansion = as_shown z e; complements = tabulate 256 (complemented_in rows) })
+  -- what is handed up for the listing of the record
+  abbrev back-read : ListingRead
+  back-read = record { expansion = as_shown z e; complements = tabulate 256 (complemented_in rows) }
+
+  had-back : HadBack z e back-read
   unfolding as_shown
   had-back =
       record {
-        given = refl;
         coefficients = refl;
         mixed = refl;
         fixed = refl;
@@ -163,19 +167,18 @@ module _ (z : Sizes) (e : Expansion) (sized : Sized z.n z.m (most_mixed z.class)
         rest = λ j h. ap (λ (x : ℕ → ℕ). x j) at-shown ∙ shown-past z.class z.n z.k e.mixed _ j r.member.pair.size h;
       }
 
-  handed : handed_up z (listing_reading z (member_listing z e)) ≡ record { answer = Given; expansion = as_shown z e; complements = tabulate 256 (complemented_in rows) }
+  handed : handed_up z (listing_reading z (member_listing z e)) ≡ Ok back-read
   unfolding handed_up shown_read
-  handed =
-      ap (handed_up z) record-shown
-      ∙ ap (λ (x : Expansion). record { answer = Given; expansion = x; complements = tabulate 256 (complemented_in rows) }) back
+  handed = ap (handed_up z) record-shown ∙ ap (λ (x : Expansion). Ok (record { expansion = x; complements = tabulate 256 (complemented_in rows) })) back
 
-  pub record-read : HadBack z e (handed_up z (listing_reading z (member_listing z e)))
-  record-read = subst (HadBack z e) (sym handed) had-back
+  pub record-read : (read : ListingRead) × (handed_up z (listing_reading z (member_listing z e)) ≡ Ok read) × HadBack z e read
+  record-read = (back-read, handed, had-back)
 
 -- what is handed up for the bytes of a listing
-pub yields-record : (z : Sizes) (s : List ℕ) (r : ListingRead) → r ≡ handed_up z (listing_reading z s) → YieldsRecord z s r
+pub yields-record : (z : Sizes) (s : List ℕ) (r : Result ListingRead Refused) → r ≡ handed_up z (listing_reading z s) → YieldsRecord z s r
 yields-record z s r handed e sized member written =
-    subst (HadBack z e) (sym (handed ∙ ap (λ (x : List ℕ). handed_up z (listing_reading z x)) written)) (record-read z e sized member)
+    let read = record-read z e sized member in
+    (read.0, handed ∙ ap (λ (x : List ℕ). handed_up z (listing_reading z x)) written ∙ read.1, read.2)
 
 -- ---- an answer
 
@@ -233,9 +236,6 @@ module _ (z : Sizes) (f : ℕ → ℕ) (sized : Sized z.n z.m (most_mixed z.clas
       })
       whole-blocks
 
-  pub answer-read : ((handed_up z (listing_reading z (member_listing z (answer_expansion z.class z.family z.n z.k f)))).answer ≡ Given)
-      × ((handed_up z (listing_reading z (member_listing z (answer_expansion z.class z.family z.n z.k f)))).expansion
-      ≡ answer_expansion z.class z.family z.n z.k f)
-  answer-read =
-      let read = handed z answer sized answer-record in
-      (ap (λ (x : ListingRead). x.answer) read, ap (λ (x : ListingRead). x.expansion) read ∙ whole)
+  pub answer-read : (read : ListingRead) × (handed_up z (listing_reading z (member_listing z (answer_expansion z.class z.family z.n z.k f))) ≡ Ok read)
+      × (read.expansion ≡ answer_expansion z.class z.family z.n z.k f)
+  answer-read = (back-read z answer sized answer-record, handed z answer sized answer-record, whole)

@@ -3,6 +3,7 @@ use mathlib.Core.Bool.{Bool, true, false}
 use mathlib.Core.List.{List}
 use mathlib.Core.Path.{◌≡◌, refl, ap, ◌∙◌}
 use Prim.Native.Nat.{ℕ}
+use Rattle.numbers.specs.declared.refusals.Refusal.TheVariants.{UnlikeListing}
 use Rattle.expansions.specs.declared.families.Family.{Family}
 use Rattle.listings.specs.Listing.{form_word}
 use Rattle.listings.proofs.Joined.{parts-lines}
@@ -21,7 +22,7 @@ unlike-sizes z y none = go (alike z y) refl where
 
 -- "n, m or k unlike the table's is 12 with line 1, before any later line is read"; "a listing of the other family than its table is 12, line 1"; W-207: an
 -- `f` field beside a digit, or "`f` with a digit above 2 or above n", too
-pub unlike-read : (z : Sizes) (s : List ℕ) (g : FormListing s) → (g.form.sizes ≡ z → ⊥) → listing_reading z s ≡ refused 12 1
+pub unlike-read : (z : Sizes) (s : List ℕ) (g : FormListing s) → (g.form.sizes ≡ z → ⊥) → listing_reading z s ≡ refused UnlikeListing 1
 unfolding listing_reading all_lines
 unlike-read z s g none =
     let family : Family = g.form.sizes.family in

@@ -1,35 +1,31 @@
 -- What the first line of a listing says, by its fields, and which listings begin with such a line. Document 01, "Text in, listing out", and
 -- document 02, W-203 and W-207: of an `f` field, "the listing repeats that field".
-use Rattle.std.specs.Prelude.{List, ◌++◌, ◌≡◌, ℕ, ◌<◌}
+use Rattle.std.specs.Prelude.{List, ◌++◌, ◌≡◌, ℕ, ◌<◌, Option, Some, None}
 use Rattle.expansions.specs.declared.families.Family.TheVariants.{One, Two}
 use Rattle.listings.specs.Parts.{parts, bytes, field}
 use Rattle.listings.specs.Listing.{line, form_fields, form_word}
 use Rattle.fields.specs.declared.heading.Heading.{Heading}
-use Rattle.fields.specs.declared.values.Number.{Number}
-use Rattle.fields.specs.declared.values.MixedRead.{MixedRead}
-use Rattle.fields.specs.Fields.{and_then, number, mixed_said, mixed_then, family_of, heading_said, heading_then}
-use Rattle.listing_texts.specs.declared.form.SizesRead.{SizesRead}
-use Rattle.listing_texts.specs.declared.form.SizesRead.TheVariants as sizes
+use Rattle.fields.specs.declared.values.Mixed.{Mixed}
+use Rattle.fields.specs.Fields.{and_then, number, mixed_said, family_of, heading_said}
+use Rattle.table_texts.specs.declared.sizes.Sizes.{Sizes}
 use Rattle.listing_texts.specs.declared.form.Form.{Form}
-use Rattle.listing_texts.specs.declared.form.FirstLine.{FirstLine}
-use Rattle.listing_texts.specs.declared.form.FirstLine.TheVariants.{States, Wrong}
 
 -- n, m and the class with its k, where each field says them, with the family
-abbrev pub sizes_of : Heading → MixedRead → SizesRead
+abbrev pub sizes_of : Option Heading → Option Mixed → Option Sizes
 sizes_of heading mixed =
-    heading_then heading sizes.Wrong
-    (λ family n m. mixed_then mixed sizes.Wrong (λ C k. sizes.Are (record { n = n; m = m; class = C; k = k; family = family })))
+    and_then heading None
+    (λ h. and_then mixed None (λ x. Some (record { n = h.n; m = h.m; class = x.class; k = x.k; family = h.family })))
 
 -- these sizes with the other four numbers, where each field says one
-abbrev pub form_of : SizesRead → Number → Number → Number → Number → FirstLine
-form_of (sizes.Are z) M i p l =
-    and_then M Wrong
-    (λ M. and_then i Wrong (λ i. and_then p Wrong (λ p. and_then l Wrong (λ l. States (record { sizes = z; mixed = M; fixed = i; products = p; literals = l })))))
-form_of sizes.Wrong M i p l = Wrong
+abbrev pub form_of : Option Sizes → Option ℕ → Option ℕ → Option ℕ → Option ℕ → Option Form
+form_of z M i p l =
+    and_then z None
+    (λ z. and_then M None
+    (λ M. and_then i None (λ i. and_then p None (λ p. and_then l None (λ l. Some (record { sizes = z; mixed = M; fixed = i; products = p; literals = l }))))))
 
 -- "`form`, n, m, k (a digit), M, i, products, literals", with the word of either family, and k a digit or `f` and a digit: "its numbers have one to four
 -- digits and no leading zero but `0`"
-unfoldable pub first_line : List ℕ → FirstLine
+unfoldable pub first_line : List ℕ → Option Form
 first_line l =
     form_of
     (sizes_of (heading_said (family_of 8 (form_word One) (form_word Two) l) (number 4 (field 1 l)) (number 4 (field 2 l))) (mixed_said (field 3 l)))

@@ -6,12 +6,12 @@ ghost use Rattle.fields.specs.Fields.{number};
 ghost use Rattle.listing_texts.specs.Form.{sizes_of, form_of, first_line};
 
 use fields::heading::{Heading, heading_of};
-use fields::values::{MixedRead, Number, mixed_of, read_number};
+use fields::values::{Mixed, mixed_of, read_number};
 use fields::words::{family_of, field};
 use table_texts::sizes::Sizes;
 
 // What a first line states: the sizes with the class and the family, the mixed set M and the fixed polarity i as masks, and the counts.
-#[derive(Clone, Copy)]
+#[derive(Clone, Copy, Debug, PartialEq, Eq)]
 pub struct Form {
     pub sizes: Sizes,
     pub mixed: usize,
@@ -20,31 +20,13 @@ pub struct Form {
     pub literals: usize,
 }
 
-// What a first line says.
-#[derive(Clone, Copy)]
-pub enum FirstLine {
-    States(Form),
-    Wrong,
-}
-
-// The sizes that the fields of a first line say.
-#[derive(Clone, Copy)]
-enum SizesRead {
-    Are(Sizes),
-    Wrong,
-}
-
 // The sizes of a first line, where each field says its own, with the family.
-fn sizes_of(heading: Heading, mixed: MixedRead) -> SizesRead
+fn sizes_of(heading: Option<Heading>, mixed: Option<Mixed>) -> Option<Sizes>
     ensures { result ≡ sizes_of heading mixed }
 {
-    let Heading::Is { family, n, m } = heading else {
-        return SizesRead::Wrong;
-    };
-    let MixedRead::Is { class, k } = mixed else {
-        return SizesRead::Wrong;
-    };
-    SizesRead::Are(Sizes {
+    let Heading { family, n, m } = heading?;
+    let Mixed { class, k } = mixed?;
+    Some(Sizes {
         n,
         m,
         class,
@@ -55,47 +37,33 @@ fn sizes_of(heading: Heading, mixed: MixedRead) -> SizesRead
 
 // The sizes and the other numbers of a first line, where each is read.
 fn form_of(
-    sizes: SizesRead,
-    mixed: Number,
-    fixed: Number,
-    products: Number,
-    literals: Number,
-) -> FirstLine
+    sizes: Option<Sizes>,
+    mixed: Option<usize>,
+    fixed: Option<usize>,
+    products: Option<usize>,
+    literals: Option<usize>,
+) -> Option<Form>
     ensures { result ≡ form_of sizes mixed fixed products literals }
 {
-    let SizesRead::Are(sizes) = sizes else {
-        return FirstLine::Wrong;
-    };
-    let Number::Is(mixed) = mixed else {
-        return FirstLine::Wrong;
-    };
-    let Number::Is(fixed) = fixed else {
-        return FirstLine::Wrong;
-    };
-    let Number::Is(products) = products else {
-        return FirstLine::Wrong;
-    };
-    let Number::Is(literals) = literals else {
-        return FirstLine::Wrong;
-    };
-    FirstLine::States(Form {
-        sizes,
-        mixed,
-        fixed,
-        products,
-        literals,
+    Some(Form {
+        sizes: sizes?,
+        mixed: mixed?,
+        fixed: fixed?,
+        products: products?,
+        literals: literals?,
     })
 }
 
 // The number that field i of a line says.
-fn number_in(line: &[u8], i: usize) -> Number
+fn number_in(line: &[u8], i: usize) -> Option<usize>
     ensures { result ≡ number 4 (field i line.now) }
 {
     read_number(4, field(line, i))
 }
 
 // The first line: its word is that of a family, its numbers have one to four digits, and k has one, after an `f` in the free class.
-pub fn first_line(line: &[u8]) -> FirstLine
+#[tactic(auto, unfolding(crate::specs::Form::first_line, listings::specs::Listing::form_word, listings::specs::Parts::bytes))]
+pub fn first_line(line: &[u8]) -> Option<Form>
     ensures { result ≡ first_line line.now }
 {
     let heading = heading_of(

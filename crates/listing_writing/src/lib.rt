@@ -5,5 +5,5 @@
 
 pub mod form;
 pub mod kron;
-pub mod listed;
+mod letters;
 mod terms;

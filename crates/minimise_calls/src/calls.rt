@@ -1,72 +1,46 @@
 // The binary minimising call on n, m, k, a table and two lent buffers. It judges its arguments in document 01's order, refusals 2, 3, 4, 8
 // and 9, and under a refusal changes no lent byte.
-ghost use Rattle.std.specs.Prelude.{◌≡◌, ◌≤◌, length};
-ghost use Rattle.numbers.specs.Bytes.{at, tabulate};
+ghost use Rattle.std.specs.Prelude.{◌≡◌};
 ghost use Rattle.minimise_calls.specs.Calls.{minimise_refusal, Minimise};
 
 use expansions::families::Family;
 use expansions::kinds::Class;
 use numbers::limits::Limits;
-use numbers::refusals::{judge_sizes, within_outputs};
+use numbers::refusals::{Refusal, Refused, judge_sizes, within_outputs};
 use search::answer::find_answer;
-use search::expansion::Expansion;
 
-// The answer of the minimising call: the mixed set M, the fixed polarity i, the counts and the inversion mask of the member that it found, or declined
-// with document 01's number and line.
-#[derive(Clone, Copy)]
-pub enum Minimised {
-    Found {
-        mixed: usize,
-        fixed: usize,
-        products: usize,
-        literals: usize,
-        inverted: u8,
-    },
-    Refused {
-        number: usize,
-        line: usize,
-    },
+// What the minimising call returns of the member that it found: the mixed set M, the fixed polarity i, the counts and the inversion mask.
+#[derive(Clone, Copy, Debug, PartialEq, Eq)]
+pub struct Minimum {
+    pub mixed: usize,
+    pub fixed: usize,
+    pub products: usize,
+    pub literals: usize,
+    pub inverted: u8,
 }
 
-// The number of the first refusal that applies, and 0 where none does; `coefficients` and `blocks` are the lengths of the buffers to fill.
-fn first_refusal(
+// Judges the arguments, to the first refusal that applies; `coefficients` and `blocks` are the lengths of the buffers to fill.
+#[tactic(auto, using(numbers::proofs::refusals::Judging::sizes_shifts), unfolding(crate::specs::Calls::minimise_refusal))]
+fn judge(
     n: usize,
     m: usize,
     k: usize,
     table: &[u8],
     coefficients: usize,
     blocks: usize,
-) -> usize
+) -> Result<(), Refusal>
     ensures { result ≡ minimise_refusal n m k table.now coefficients blocks }
 {
-    let sizes = judge_sizes(n, m, Limits::MIXED, k);
-    if sizes != 0 {
-        return sizes;
-    }
+    judge_sizes(n, m, Limits::MIXED, k)?;
     let size: usize = 1 << n;
-    if table.len() != size {
-        return 8;
-    }
-    if coefficients != size {
-        return 8;
-    }
     let count: usize = 1 << (n - k);
-    if blocks != count {
-        return 8;
+    if table.len() != size || coefficients != size || blocks != count {
+        return Err(Refusal::BufferLength);
     }
-    if within_outputs(m, table) { 0 } else { 9 }
-}
-
-// Copies the first places of a record's array into a lent buffer that has no more places.
-fn copy_places(places: &[u8; Expansion::PLACES], lent: &mut [u8])
-    requires { length lent.old ≤ 256 }
-    ensures { lent.new ≡ tabulate (length lent.old) (at places.now) }
-{
-    let mut q = 0;
-    while q < lent.len() {
-        lent[q] = places[q];
-        q += 1;
+    if !within_outputs(m, table) {
+        return Err(Refusal::HighBit);
     }
+    Ok(())
 }
 
 // Takes n, m, k and a table of 2^n bytes, and finds the first least member, as family one compares, that gives the table. It fills
@@ -79,23 +53,18 @@ pub fn minimise(
     table: &[u8],
     coefficients: &mut [u8],
     blocks: &mut [u8],
-) -> Minimised
+) -> Result<Minimum, Refused>
     ensures { Minimise n m k table.now coefficients.old coefficients.new blocks.old blocks.new result }
 {
-    let number = first_refusal(n, m, k, table, coefficients.len(), blocks.len());
-    if number != 0 {
-        return Minimised::Refused { number, line: 0 };
-    }
+    judge(n, m, k, table, coefficients.len(), blocks.len())?;
     let found = find_answer(Class::Block, Family::One, n, m, k, table);
-    let places = found.coefficients;
-    copy_places(&places, coefficients);
-    let polarities = found.blocks;
-    copy_places(&polarities, blocks);
-    Minimised::Found {
+    coefficients.copy_from_slice(&found.coefficients[..coefficients.len()]);
+    blocks.copy_from_slice(&found.blocks[..blocks.len()]);
+    Ok(Minimum {
         mixed: found.mixed,
         fixed: found.fixed,
         products: found.products,
         literals: found.literals,
         inverted: found.inverted,
-    }
+    })
 }

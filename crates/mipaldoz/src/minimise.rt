@@ -1,32 +1,29 @@
 // The minimising call. The answer is seven numbers: the refusal's number and its line, M, i, products, literals and the inversion mask.
-ghost use Rattle.std.specs.Prelude.{◌≡◌, length};
-ghost use Rattle.minimise_calls.specs.declared.calls.Minimised.{Minimised};
+ghost use Rattle.std.specs.Prelude.{◌≡◌, length, Result};
+ghost use Rattle.numbers.specs.declared.refusals.Refused.{Refused};
+ghost use Rattle.minimise_calls.specs.declared.calls.Minimum.{Minimum};
 ghost use Rattle.minimise_calls.specs.Calls.{Minimise};
 ghost use Rattle.mipaldoz.specs.Answers.{decided_minimum, minimum_numbers};
 
-use minimise_calls::calls::{Minimised, minimise};
+use minimise_calls::calls::{Minimum, minimise};
+use numbers::refusals::Refused;
 
 // The numbers that stand for the minimising call's answer.
-fn minimum_numbers(r: Minimised) -> [u64; 7]
+#[tactic(auto, unfolding(crate::specs::Answers::minimum_numbers))]
+fn minimum_numbers(r: Result<Minimum, Refused>) -> [u64; 7]
     ensures { result ≡ minimum_numbers r }
 {
     match r {
-        Minimised::Found {
-            mixed,
-            fixed,
-            products,
-            literals,
-            inverted,
-        } => [
+        Ok(found) => [
             0,
             0,
-            mixed as u64,
-            fixed as u64,
-            products as u64,
-            literals as u64,
-            inverted as u64,
+            found.mixed as u64,
+            found.fixed as u64,
+            found.products as u64,
+            found.literals as u64,
+            u64::from(found.inverted),
         ],
-        Minimised::Refused { number, line } => [number as u64, line as u64, 0, 0, 0, 0, 0],
+        Err(Refused { refusal, line }) => [refusal.number() as u64, line as u64, 0, 0, 0, 0, 0],
     }
 }
 
@@ -42,7 +39,7 @@ pub extern "C" fn mipaldoz_minimise(
     blocks: &mut [u8],
     answer: &mut [u64; 7],
 )
-    ensures meaning { (r : Minimised) × (answer.new ≡ minimum_numbers r)
+    ensures meaning { (r : Result Minimum Refused) × (answer.new ≡ minimum_numbers r)
         × Minimise n m k table.now coefficients.old coefficients.new blocks.old blocks.new r }
     ensures answer { answer.new ≡ minimum_numbers (decided_minimum n m k table.now (length coefficients.old) (length blocks.old)) }
 {

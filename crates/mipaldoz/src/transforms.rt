@@ -1,18 +1,19 @@
 // The transform calls. The answer is two numbers, the refusal's number and its line.
-ghost use Rattle.std.specs.Prelude.{◌≡◌, length};
-ghost use Rattle.transform_calls.specs.declared.calls.Transformed.{Transformed};
+ghost use Rattle.std.specs.Prelude.{◌≡◌, length, Result};
+ghost use Rattle.numbers.specs.declared.refusals.Refused.{Refused};
 ghost use Rattle.transform_calls.specs.Calls.{Forward, Backward};
 ghost use Rattle.mipaldoz.specs.Answers.{decided, transform_numbers};
 
-use transform_calls::calls::Transformed;
+use numbers::refusals::Refused;
 
 // The numbers that stand for a transform call's answer.
-fn answer_numbers(r: Transformed) -> [u64; 2]
+#[tactic(auto, unfolding(crate::specs::Answers::transform_numbers))]
+fn answer_numbers(r: Result<(), Refused>) -> [u64; 2]
     ensures { result ≡ transform_numbers r }
 {
     match r {
-        Transformed::Done => [0, 0],
-        Transformed::Refused { number, line } => [number as u64, line as u64],
+        Ok(()) => [0, 0],
+        Err(Refused { refusal, line }) => [refusal.number() as u64, line as u64],
     }
 }
 
@@ -28,7 +29,7 @@ pub extern "C" fn mipaldoz_forward(
     coefficients: &mut [u8],
     answer: &mut [u64; 2],
 )
-    ensures meaning { (r : Transformed) × (answer.new ≡ transform_numbers r) × Forward n m w table.now coefficients.old coefficients.new r }
+    ensures meaning { (r : Result (Unit {0}) Refused) × (answer.new ≡ transform_numbers r) × Forward n m w table.now coefficients.old coefficients.new r }
     ensures answer { answer.new ≡ transform_numbers (decided n m w table.now (length coefficients.old)) }
 {
     *answer = answer_numbers(transform_calls::calls::forward(n, m, w, table, coefficients));
@@ -45,7 +46,7 @@ pub extern "C" fn mipaldoz_backward(
     table: &mut [u8],
     answer: &mut [u64; 2],
 )
-    ensures meaning { (r : Transformed) × (answer.new ≡ transform_numbers r) × Backward n m w coefficients.now table.old table.new r }
+    ensures meaning { (r : Result (Unit {0}) Refused) × (answer.new ≡ transform_numbers r) × Backward n m w coefficients.now table.old table.new r }
     ensures answer { answer.new ≡ transform_numbers (decided n m w coefficients.now (length table.old)) }
 {
     *answer = answer_numbers(transform_calls::calls::backward(n, m, w, coefficients, table));

@@ -2,6 +2,7 @@ pub mod Tests
 pub mod Xor
 pub mod Bits
 pub mod Bytes
+pub mod Made
 pub mod Tables
 pub mod Shifts
 pub mod Multiples
@@ -12,3 +13,5 @@ pub mod Words
 pub mod WordBits
 pub mod Nonzero
 pub mod Flips
+pub mod WordBytes
+pub mod Front

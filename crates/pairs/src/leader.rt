@@ -8,69 +8,55 @@ ghost use Rattle.expansions.specs.BlockTable.{Rows};
 ghost use Rattle.lanes.specs.Inner.Sizes.{Limits, MixedSet};
 ghost use Rattle.pairs.specs.Inner.Pairs.{Given, least_from, pair_from, pair_of, led_by, Leads};
 
-use charges::cheapest::{cheapest_apart, cheapest_block, cheapest_first};
+use blocks::rows::ROWS;
+use charges::cheapest::{cheapest_block, cheapest_first};
 use expansions::kinds::apart;
 use lanes::expand::{expand_blocks, next_polarity};
 use lanes::sizes::{Pair, Sizes};
 use points::split::{ones_in, outside, spread};
 
 // The pair that leads, M * 2^n + i, and its charge; before there is one, the charge is above every charge.
-#[derive(Clone, Copy)]
+#[derive(Clone, Copy, Debug, PartialEq, Eq)]
 pub struct Leader {
     pub charge: u32,
     pub pair: usize,
 }
 
-// What block j, other than block 0, costs under its first least choice; `both` tells whether the terms of a block choose apart.
-fn other_charge(rows: &[u64; 512], sizes: Sizes, lanes: &[u8], both: bool, j: usize) -> u32
-    requires rows { Rows sizes.class sizes.k rows.now × (0 < j) × (j < 256) × (j * 8 + 8 ≤ length lanes.now) }
-    requires limits { Limits sizes × (both ≡ apart sizes.class sizes.k) }
-    ensures { result * 256 ≡ least_from sizes (at lanes.now) j }
-{
-    if both {
-        let least = cheapest_apart(rows, sizes, lanes, j);
-        return least.charge;
-    }
-    let least = cheapest_block(rows, sizes, lanes, j);
-    least.charge
-}
-
-// What the blocks other than block 0 cost together, each under its first least choice.
-fn others_charge(rows: &[u64; 512], sizes: Sizes, lanes: &[u8], both: bool) -> u32
+// What the blocks other than block 0 cost together, each under its first least choice; whether the terms of a block choose apart is told as a constant.
+fn others_charge<const APART: bool>(rows: &[u64; ROWS], sizes: Sizes, lanes: &[u8]) -> u32
     requires rows { Rows sizes.class sizes.k rows.now }
-    requires limits { Limits sizes × (both ≡ apart sizes.class sizes.k) }
+    requires limits { Limits sizes × (apart sizes.class sizes.k ≡ APART) }
     requires lanes_len { length lanes.now ≡ 8 * 2 ^ (sizes.n - sizes.k) }
     ensures { least_from sizes (at lanes.now) 0 + result * 256 ≡ pair_from sizes (at lanes.now) }
 {
     let count: usize = 1 << (sizes.n - sizes.k);
-    let mut others: u32 = 0;
-    let mut j: usize = 1;
-    while j < count {
-        others += other_charge(rows, sizes, lanes, both, j);
-        j += 1;
+    let mut others = 0;
+    for j in 1..count {
+        others += cheapest_block::<APART>(rows, sizes, lanes, j).charge;
     }
     others
 }
 
 // What a pair costs, from its block functions: the sum over the blocks of what each costs under its first least choice, block 0 with its mask and 256
-// times the others. Whether the terms choose apart is told as a constant, so that the loop over the blocks is compiled for each of the two by itself.
-fn pair_charge(rows: &[u64; 512], sizes: Sizes, lanes: &[u8]) -> u32
+// times the others.
+fn pair_charge(rows: &[u64; ROWS], sizes: Sizes, lanes: &[u8]) -> u32
     requires rows { Rows sizes.class sizes.k rows.now }
     requires limits { Limits sizes }
     requires lanes_len { length lanes.now ≡ 8 * 2 ^ (sizes.n - sizes.k) }
     ensures { result ≡ pair_from sizes (at lanes.now) }
 {
     let first = cheapest_first(rows, sizes, lanes);
-    let class = sizes.class;
-    if apart(class, sizes.k) {
-        return first.charge + others_charge(rows, sizes, lanes, true) * 256;
-    }
-    first.charge + others_charge(rows, sizes, lanes, false) * 256
+    let others = if apart(sizes.class, sizes.k) {
+        others_charge::<true>(rows, sizes, lanes)
+    } else {
+        others_charge::<false>(rows, sizes, lanes)
+    };
+    first.charge + others * 256
 }
 
 // The leader once the pair of `mixed` and the closed-up polarity w has been tried, from its block functions.
 fn try_polarity(
-    rows: &[u64; 512],
+    rows: &[u64; ROWS],
     sizes: Sizes,
     mixed: usize,
     w: usize,
@@ -95,7 +81,7 @@ fn try_polarity(
 
 // The leader once every i has been tried with `mixed`, which has k inputs. `lanes` is room for the block functions.
 fn try_polarities(
-    rows: &[u64; 512],
+    rows: &[u64; ROWS],
     sizes: Sizes,
     mixed: usize,
     table: &[u8],
@@ -113,18 +99,15 @@ fn try_polarities(
     let r = sizes.n - sizes.k;
     let count: usize = 1 << r;
     let mut led = leader;
-    let mut w: usize = 0;
-    while w < count {
-        let next = try_polarity(rows, sizes, mixed, w, lanes, led);
-        led = next;
+    for w in 0..count {
+        led = try_polarity(rows, sizes, mixed, w, lanes, led);
         next_polarity(r, w, lanes);
-        w += 1;
     }
     led
 }
 
 // The leader once every i has been tried with `mixed`, if it has k inputs; one with another number of inputs has no pair.
-fn try_mixed(rows: &[u64; 512], sizes: Sizes, mixed: usize, table: &[u8], leader: Leader) -> Leader
+fn try_mixed(rows: &[u64; ROWS], sizes: Sizes, mixed: usize, table: &[u8], leader: Leader) -> Leader
     requires rows { Rows sizes.class sizes.k rows.now }
     requires limits { Limits sizes }
     requires given { Given sizes.n table.now }
@@ -140,7 +123,7 @@ fn try_mixed(rows: &[u64; 512], sizes: Sizes, mixed: usize, table: &[u8], leader
 }
 
 // The first pair of least charge, and its charge.
-pub fn first_least(rows: &[u64; 512], sizes: Sizes, table: &[u8]) -> Leader
+pub fn first_least(rows: &[u64; ROWS], sizes: Sizes, table: &[u8]) -> Leader
     requires rows { Rows sizes.class sizes.k rows.now }
     requires limits { Limits sizes }
     requires given { Given sizes.n table.now }
@@ -151,11 +134,8 @@ pub fn first_least(rows: &[u64; 512], sizes: Sizes, table: &[u8]) -> Leader
         charge: u32::MAX,
         pair: 0,
     };
-    let mut mixed: usize = 0;
-    while mixed < all {
-        let next = try_mixed(rows, sizes, mixed, table, led);
-        led = next;
-        mixed += 1;
+    for mixed in 0..all {
+        led = try_mixed(rows, sizes, mixed, table, led);
     }
     led
 }

@@ -1,5 +1,5 @@
 // Bits in a mask, closed up lowest first, and opened out again: block and place of a number, and the way back. Nothing divides: a bit is had by
-// a shift and a mask. Each function walks the inputs from the lowest; `used` is the number of inputs of the mask passed so far.
+// a shift and a mask. `split` and `spread` pass the inputs from the lowest on; `used` is the number of inputs of the mask passed so far.
 ghost use Rattle.std.specs.Prelude.{◌≡◌, ◌≤◌, ◌<◌, ◌^◌};
 ghost use Rattle.std.specs.Int.Count.{ones_in};
 ghost use Rattle.expansions.specs.ClosedUp.{ClosedUp, OpenedOut, IsSplit};
@@ -18,13 +18,8 @@ pub fn ones_in(n: usize, mask: usize) -> usize
     requires { n ≤ 8 }
     ensures { result ≡ ones_in n mask }
 {
-    let mut used: usize = 0;
-    let mut b: usize = 0;
-    while b < n {
-        used += (mask >> b) & 1;
-        b += 1;
-    }
-    used
+    let inputs = (1 << n) - 1;
+    (mask & inputs).count_ones() as usize
 }
 
 // Block and place of x, a point or a term: the bit of x at an input of the mixed set goes to the place, that at another input to the block,
@@ -33,16 +28,14 @@ pub fn split(n: usize, mixed: usize, x: usize) -> Parts
     requires { n ≤ 8 }
     ensures { (result.block ≡ block n mixed x) × (result.place ≡ place n mixed x) × IsSplit n mixed x result.block result.place }
 {
-    let mut block: usize = 0;
-    let mut place: usize = 0;
-    let mut used: usize = 0;
-    let mut b: usize = 0; // the lowest input
-    while b < n {
-        let inside = (mixed >> b) & 1;
-        place = place | (((x >> b) & inside) << used);
-        block = block | (((x >> b) & (inside ^ 1)) << (b - used));
+    let mut block = 0;
+    let mut place = 0;
+    let mut used = 0;
+    for i in 0..n {
+        let inside = (mixed >> i) & 1;
+        place |= ((x >> i) & inside) << used;
+        block |= ((x >> i) & (inside ^ 1)) << (i - used);
         used += inside;
-        b += 1;
     }
     Parts { block, place }
 }
@@ -53,8 +46,7 @@ pub fn gather(n: usize, mask: usize, x: usize) -> usize
     ensures value { result ≡ Split.gather n mask x }
     ensures bits { ClosedUp n mask x result }
 {
-    let parts = split(n, mask, x);
-    parts.place
+    split(n, mask, x).place
 }
 
 // The bits of y at the inputs of the mask, and 0 at the others.
@@ -63,14 +55,12 @@ pub fn spread(n: usize, mask: usize, y: usize) -> usize
     ensures value { result ≡ Split.spread n mask y }
     ensures bits { OpenedOut n mask y result }
 {
-    let mut x: usize = 0;
-    let mut used: usize = 0;
-    let mut b: usize = 0;
-    while b < n {
+    let mut x = 0;
+    let mut used = 0;
+    for b in 0..n {
         let inside = (mask >> b) & 1;
-        x = x | (((y >> used) & inside) << b);
+        x |= ((y >> used) & inside) << b;
         used += inside;
-        b += 1;
     }
     x
 }

@@ -7,13 +7,11 @@ use fields::words::same;
 use std::env::{Env, FillError};
 
 // Whether an argument asks for the usage.
+#[tactic(auto, unfolding(listings::specs::Parts::bytes))]
 pub fn is_help(word: &[u8]) -> bool
     ensures { result ≡ (same word.now (bytes "--help") || same word.now (bytes "-h")) }
 {
-    if same(word, b"--help") {
-        return true;
-    }
-    same(word, b"-h")
+    same(word, b"--help") || same(word, b"-h")
 }
 
 // How many words the program was started with, its own name among them.
@@ -31,18 +29,18 @@ fn word_count(rt: &impl Env) -> usize {
 pub fn argument_count(rt: &impl Env, most: u8) -> usize
     ensures { result ≤ most + 1 }
 {
-    let over = most as usize + 1;
+    let over = usize::from(most) + 1;
     let words = word_count(rt);
     if over < words {
         return over;
     }
     let mut word = [0u8; Source::NAME_BYTES];
     for i in 1..words {
-        if let Ok(length) = rt.arg(i, &mut word) {
-            if is_help(&word[..length]) {
-                return over;
-            }
+        if let Ok(length) = rt.arg(i, &mut word)
+            && is_help(&word[..length])
+        {
+            return over;
         }
     }
-    if words == 0 { 0 } else { words - 1 }
+    words.saturating_sub(1)
 }

@@ -3,6 +3,7 @@
 // its bound, that what was read lies within what was lent, and how long the sentence of a refusal is.
 #![tactic(auto)]
 
+pub mod answering;
 pub mod arguments;
 mod failures;
 pub mod reading;

@@ -12,9 +12,8 @@ pub fn read_full<R: Read>(reader: &mut R, bytes: &mut [u8]) -> usize
     let mut filled = 0;
     while filled < bytes.len() {
         match reader.read(&mut bytes[filled..]) {
-            Ok(0) => break,
+            Ok(0) | Err(_) => break,
             Ok(count) => filled += count,
-            Err(_) => break,
         }
     }
     filled

@@ -1,5 +1,5 @@
 // What a program reads, a file that an argument names or standard input, in a lent buffer, and the name of it.
-ghost use Rattle.std.specs.Prelude.{◌≤◌, length};
+ghost use Rattle.std.specs.Prelude.{◌≤◌, length, IfSome};
 ghost use Rattle.listings.specs.Parts.{bytes};
 ghost use Rattle.writing.specs.Put.{Put};
 
@@ -11,10 +11,9 @@ use std::rt::Files;
 use std::{fs, io};
 use writing::writer::Writer;
 
-// What was read: whether the file could be read, how many bytes its name has, and how many bytes were read of it.
-#[derive(Clone, Copy)]
+// What was read: how many bytes the file's name has, and how many bytes were read of it.
+#[derive(Clone, Copy, Debug, PartialEq, Eq)]
 pub struct Source {
-    pub readable: bool,
     pub named: usize,
     pub length: usize,
 }
@@ -24,37 +23,38 @@ impl Source {
     pub const NAME_BYTES: usize = 4096;
 }
 
-// Puts argument i into `name`, and the first bytes of the file of that name into `bytes`. Where it cannot, it says why on standard error.
+// Puts argument i into `name`, and the first bytes of the file of that name into `bytes`. Where it cannot, it says why on standard error, and gives none.
 pub fn read_argument<R: Env + Files>(
     rt: &R,
     errors: &impl Print,
     i: usize,
     name: &mut [u8],
     bytes: &mut [u8],
-) -> Source
-    ensures { (result.named ≤ length name.new) × (result.length ≤ length bytes.new) }
+) -> Option<Source>
+    ensures { IfSome result (λ source. (source.named ≤ length name.new) × (source.length ≤ length bytes.new)) }
 {
     let named = match rt.arg(i, name) {
         Ok(named) => named,
         Err(error) => {
             tell_failure(errors, b"an argument is too long", argument_error(error));
-            return unread();
+            return None;
         }
     };
     let mut file = match open_named(rt, &name[..named]) {
         Ok(file) => file,
         Err(error) => {
             tell_failure(errors, &name[..named], error);
-            return unread();
+            return None;
         }
     };
     let length = read_full(&mut file, bytes);
-    let readable = length != 0 || at_end(&mut file, errors, &name[..named]);
-    Source {
-        readable,
+    if length == 0 && !at_end(&mut file, errors, &name[..named]) {
+        return None;
+    }
+    Some(Source {
         named, // of the file
         length, // of the file
-    }
+    })
 }
 
 // Puts the words `standard input` into the front of `name`, where it has room for them, and gives how many bytes stand there.
@@ -65,8 +65,7 @@ fn name_input(name: &mut [u8]) -> usize
     if name.len() < 14 {
         return 0;
     }
-    let stop = Writer { at: 0 }.word(name, b"standard input");
-    stop.at
+    Writer { at: 0 }.word(name, b"standard input").at
 }
 
 // What a program of one file reads: puts the first bytes of the file that its argument names into `bytes`, and the argument into `name`; with no argument
@@ -77,19 +76,18 @@ pub fn read_input<R: Env + Files + Input>(
     arguments: usize,
     name: &mut [u8],
     bytes: &mut [u8],
-) -> Source
-    ensures { (result.named ≤ length name.new) × (result.length ≤ length bytes.new) }
+) -> Option<Source>
+    ensures { IfSome result (λ source. (source.named ≤ length name.new) × (source.length ≤ length bytes.new)) }
 {
     if arguments != 0 {
         return read_argument(rt, errors, 1, name, bytes);
     }
     let named = name_input(name);
     let length = read_full(&mut rt.reader(), bytes);
-    Source {
-        readable: true,
+    Some(Source {
         named, // of standard input
         length, // of standard input
-    }
+    })
 }
 
 // Why an argument is not there, in the words that the system has for it.
@@ -118,15 +116,4 @@ fn at_end(file: &mut impl Read, errors: &impl Print, name: &[u8]) -> bool {
     };
     tell_failure(errors, name, error);
     false
-}
-
-// Nothing was read.
-fn unread() -> Source
-    ensures { (result.named ≤ 0) × (result.length ≤ 0) }
-{
-    Source {
-        readable: false,
-        named: 0,
-        length: 0,
-    }
 }

@@ -6,6 +6,10 @@ use Prim.Native.Nat.{ℕ, ◌≤◌}
 use native.Mathlib.Omega.{arith}
 use lib.Dec.{lit<}
 use lib.ListN.{length, take, replicate}
+use Rattle.std.specs.Prelude.{Result, Ok, Err}
+use Rattle.numbers.specs.declared.refusals.Refusal.{Refusal}
+use Rattle.numbers.specs.declared.refusals.Refused.{Refused}
+use Rattle.numbers.specs.Refusals.{number_of}
 use Rattle.expansions.proofs.Rivals.{rival-counts}
 use Rattle.table_texts.specs.declared.sizes.Design.{Design}
 use Rattle.table_texts.specs.Inner.Reading.{Reading, given, refused, reading}
@@ -21,27 +25,26 @@ use Rattle.listings.proofs.Joined.{Plain}
 use Rattle.text.specs.Judged.{judged, refused_line}
 use Rattle.text.specs.Print as rmform
 use Rattle.text.specs.Inner.Compiled.{answer_listing}
-use Rattle.text.proofs.compile.Listings.{chosen-only, listing-within}
+use Rattle.text.proofs.compile.Listings.{chosen-only, listing-within, written-refused}
 use Rattle.text.proofs.print.Refusals.{line-says, line-le, refusal-said, refused-line-le}
 use Rattle.writing.specs.Put.{Put}
 use Rattle.writing.proofs.Fronts.{put-fronted}
 use Rattle.quote_text.specs.declared.quote.Quotation.{Quotation}
-use Rattle.quote_text.specs.declared.quote.Quotation.TheVariants.{Given, Refused}
 use Rattle.quote_text.specs.Numbers.{listing_numbers}
 use Rattle.quote_text.specs.Quote.{Quote}
 use Rattle.quote_text.specs.Print.{Print}
 use Rattle.quote_text.specs.QuotationLine.{quotation_line}
 use Rattle.quote_text.specs.Inner.Quoted.{quoted}
 use Rattle.quote_text.specs.Inner.Printed.{printed}
-use Rattle.quote_text.proofs.quote.Meaning.{quote-meaning, given-refused}
+use Rattle.quote_text.proofs.quote.Meaning.{quote-meaning}
 use Rattle.quote_text.proofs.quote.Numbers.{listing-least}
 
 -- ---- the line
 
-quotation-within : (r : Quotation) → length (quotation_line r) ≤ 21
+pub quotation-within : (r : Result Quotation Refused) → length (quotation_line r) ≤ 21
 unfolding quotation_line bytes
-quotation-within (Given products literals long) = line-le (bytes "quote") (products ∷ literals ∷ long ∷ [])
-quotation-within (Refused number l) = omega (arith, refused-line-le number l)
+quotation-within (Ok q) = line-le (bytes "quote") (q.products ∷ q.literals ∷ q.length ∷ [])
+quotation-within (Err e) = omega (arith, refused-line-le e.refusal e.line)
 
 plain-quote : Plain (bytes "quote")
 unfolding bytes
@@ -49,7 +52,7 @@ plain-quote = (lit< tt, (lit< tt, (lit< tt, (lit< tt, (lit< tt, tt)))))
 
 -- the numbers of a listing of the answer have at most four digits, and the line says them back
 listing-printed : (d : Design) (table : List ℕ) (text : List ℕ) → reading text ≡ given d table → (l : List ℕ) → l ≡ answer_listing d table
-    → first_numbers (quotation_line (listing_numbers l)) ≡ stated_products l ∷ stated_literals l ∷ length l ∷ []
+    → first_numbers (quotation_line (Ok (listing_numbers l))) ≡ stated_products l ∷ stated_literals l ∷ length l ∷ []
 unfolding quotation_line listing_numbers
 listing-printed d table text e l same =
     let a = reading-accepted text d table e in
@@ -62,29 +65,29 @@ listing-printed d table text e l same =
 
 module _ (input held : List ℕ) (count : ℕ) (shown : take count held ≡ printed input) where
   -- of an accepted text: the line of its listing's numbers
-  listing-shown : (d : Design) (table : List ℕ) → reading (judged input) ≡ given d table → take count held ≡ quotation_line (listing_numbers (answer_listing d table))
+  listing-shown : (d : Design) (table : List ℕ) → reading (judged input) ≡ given d table → take count held ≡ quotation_line (Ok (listing_numbers (answer_listing d table)))
   unfolding printed quoted
   listing-shown d table e = shown ∙ ap (λ (x : Reading). quotation_line (quoted x)) e
 
-  refused-shown : (number l : ℕ) → reading (judged input) ≡ refused number l → take count held ≡ refused_line number l
+  refused-shown : (why : Refusal) (l : ℕ) → reading (judged input) ≡ refused why l → take count held ≡ refused_line why l
   unfolding printed quoted quotation_line
-  refused-shown number l e = shown ∙ ap (λ (x : Reading). quotation_line (quoted x)) e
+  refused-shown why l e = shown ∙ ap (λ (x : Reading). quotation_line (quoted x)) e
 
-  numbers-printed : (products literals long : ℕ) → Quote (judged input) (Given products literals long)
-      → (take count held ≡ line (bytes "quote") (decimal products ∷ decimal literals ∷ decimal long ∷ [])) × (first_numbers (take count held) ≡ products ∷ literals ∷ long ∷ [])
+  numbers-printed : (q : Quotation) → Quote (judged input) (Ok q)
+      → (take count held ≡ line (bytes "quote") (decimal q.products ∷ decimal q.literals ∷ decimal q.length ∷ []))
+      × (first_numbers (take count held) ≡ q.products ∷ q.literals ∷ q.length ∷ [])
   unfolding quoted quotation_line listing_numbers
-  numbers-printed products literals long q = go (reading (judged input)) refl where
+  numbers-printed q quote = go (reading (judged input)) refl where
     go : (x : Reading) → reading (judged input) ≡ x
-        → (take count held ≡ line (bytes "quote") (decimal products ∷ decimal literals ∷ decimal long ∷ [])) × (first_numbers (take count held) ≡ products ∷ literals ∷ long ∷ [])
+        → (take count held ≡ line (bytes "quote") (decimal q.products ∷ decimal q.literals ∷ decimal q.length ∷ []))
+        × (first_numbers (take count held) ≡ q.products ∷ q.literals ∷ q.length ∷ [])
     go (given d table) e =
         let l = answer_listing d table in
-        let same : listing_numbers l ≡ Given products literals long = sym (q.answer ∙ ap quoted e) in
-        let products-is : stated_products l ≡ products = cc in
-        let literals-is : stated_literals l ≡ literals = cc in
-        let long-is : length l ≡ long = cc in
+        let same : Ok (listing_numbers l) ≡ Ok q = sym (quote.answer ∙ ap quoted e) in
+        let q-is : listing_numbers l ≡ q = cc in
         let told = listing-shown d table e in
-        (told ∙ ap quotation_line same, ap first_numbers told ∙ listing-printed d table (judged input) e l refl ∙ rw (products-is, literals-is, long-is))
-    go (refused number l) e = absurd (given-refused (q.answer ∙ ap quoted e))
+        (told ∙ ap quotation_line same, ap first_numbers told ∙ listing-printed d table (judged input) e l refl ∙ ap (λ (x : Quotation). x.products ∷ x.literals ∷ x.length ∷ []) q-is)
+    go (refused why l) e = absurd (written-refused (quote.answer ∙ ap quoted e))
 
   rmform-numbers : (d : Design) (table : List ℕ) → Means (judged input) d table → (other : List ℕ) (long : ℕ) → rmform.Print input other long
       → first_numbers (take count held) ≡ stated_products (take long other) ∷ stated_literals (take long other) ∷ long ∷ []
@@ -95,7 +98,7 @@ module _ (input held : List ℕ) (count : ℕ) (shown : take count held ≡ prin
       let size : long ≡ length (answer_listing d table) = print.counted ∙ ap length (sym print.shown ∙ same) in
       told ∙ rw (same, size)
 
-pub print-holds : (input text held : List ℕ) (r : Quotation) (count : ℕ) → text ≡ judged input → Quote text r
+pub print-holds : (input text held : List ℕ) (r : Result Quotation Refused) (count : ℕ) → text ≡ judged input → Quote text r
     → Put (replicate 21 0) 0 (quotation_line r) held count → Print input held count
 unfolding printed
 print-holds input text held r count et q put =
@@ -110,7 +113,7 @@ print-holds input text held r count et q put =
       meaning = (r, front.shown ∙ sym line, quote-meaning (judged input) r (reading (judged input)) refl said);
       quotation = numbers-printed input held count front.shown;
       compiling = rmform-numbers input held count front.shown;
-      refusals = text-refusals (judged input) (λ number l. (take count held ≡ refused_line number l) × (first_numbers (take count held) ≡ number ∷ l ∷ []))
-          (λ number l e. let told = refused-shown input held count front.shown number l e in (told, ap first_numbers told ∙ refusal-said input number l e));
+      refusals = text-refusals (judged input) (λ why l. (take count held ≡ refused_line why l) × (first_numbers (take count held) ≡ number_of why ∷ l ∷ []))
+          (λ why l e. let told = refused-shown input held count front.shown why l e in (told, ap first_numbers told ∙ refusal-said input why l e));
       whole = λ d table means. accepted-text-first input d table ((accepted-exactly input d table).1 means);
     }

@@ -2,8 +2,7 @@
 use Rattle.std.specs.Prelude.{List, ℕ, length}
 use Rattle.listings.specs.Meaning.{stated_products, stated_literals}
 use Rattle.quote_text.specs.declared.quote.Quotation.{Quotation}
-use Rattle.quote_text.specs.declared.quote.Quotation.TheVariants.{Given}
 
 -- "products, literals and listing length": the counts that the first line of a listing states, and how many bytes the listing has
 unfoldable pub listing_numbers : List ℕ → Quotation
-listing_numbers listing = Given (stated_products listing) (stated_literals listing) (length listing)
+listing_numbers listing = record { products = stated_products listing; literals = stated_literals listing; length = length listing }

@@ -6,16 +6,14 @@ ghost use Rattle.quote_text.specs.Print.{Print};
 ghost use Rattle.quote_text.specs.QuotationLine.{quotation_line};
 
 use crate::quote::{Quotation, quote};
-use text::print::judged_length;
-use writing::line::{write_line, write_refused};
+use numbers::refusals::Refused;
+use text::print::{judged_length, write_refusal};
+use writing::line::write_line;
 use writing::writer::Writer;
+use writing::written::Written;
 
-// What is printed: the first `length` of the bytes. The bytes past them are zero.
-#[derive(Clone, Copy)]
-pub struct PrintedQuotation {
-    pub bytes: [u8; PrintedQuotation::LONGEST_LINE],
-    pub length: usize,
-}
+// What is printed for a text. The bytes past it are zero.
+pub struct PrintedQuotation;
 
 impl PrintedQuotation {
     // The length of the longest line: the word `quote` and three numbers of four digits.
@@ -23,34 +21,26 @@ impl PrintedQuotation {
 }
 
 // Writes the line of a quotation into the front of `out`, and gives the line's length.
-fn write_quotation(answer: Quotation, out: &mut [u8]) -> usize
+#[tactic(auto, unfolding(crate::specs::QuotationLine::quotation_line, listings::specs::Parts::bytes))]
+fn write_quotation(answer: Result<Quotation, Refused>, out: &mut [u8]) -> usize
     requires { 21 ≤ length out.old }
     ensures { Put out.old 0 (quotation_line answer) out.new result }
 {
     match answer {
-        Quotation::Given {
-            products,
-            literals,
-            length,
-        } => {
-            let stop = write_line(
-                Writer { at: 0 },
-                out,
-                b"quote",
-                &[products, literals, length],
-            );
-            stop.at
+        Ok(quotation) => {
+            let numbers = [quotation.products, quotation.literals, quotation.length];
+            write_line(Writer { at: 0 }, out, b"quote", &numbers).at
         }
-        Quotation::Refused { number, line } => write_refused(number, line, out),
+        Err(refused) => write_refusal(refused, out),
     }
 }
 
 // What is printed for the input, of which the first 8,192 bytes are judged as the whole text.
-pub fn print_quotation(input: &[u8]) -> PrintedQuotation
+pub fn print_quotation(input: &[u8]) -> Written<{ PrintedQuotation::LONGEST_LINE }>
     ensures { Print input.now result.bytes result.length }
 {
     let judged = judged_length(input);
     let mut bytes = [0u8; PrintedQuotation::LONGEST_LINE];
     let length = write_quotation(quote(&input[..judged]), &mut bytes);
-    PrintedQuotation { bytes, length }
+    Written { bytes, length }
 }

@@ -1,10 +1,10 @@
 -- The sentence that tells a refusal to a person: which file, which line, what the number means, and the cause where it can be seen. The numbers are those of
 -- document 01, "Why a call declines", and of document 02, W-201: "A broken listing line .. is 11", "n, m or k unlike the table's is 12".
-use Rattle.std.specs.Prelude.{cond, List, [], ◌∷◌, ◌++◌, ◌≡◌, ℕ, ◌-◌, ◌≤◌, eqb, length, get_or, take, replicate}
+use Rattle.std.specs.Prelude.{cond, List, [], ◌∷◌, ◌++◌, ◌≡◌, ℕ, ◌-◌, ◌≤◌, eqb, length, get_or, take, replicate, Option, Some, None}
 use Rattle.listings.specs.Parts.{bytes}
 use Rattle.listings.specs.Listing.{decimal}
 use Rattle.refusal_words.specs.declared.cause.Cause.{Cause}
-use Rattle.refusal_words.specs.declared.cause.Cause.TheVariants.{Unseen, Blank, CarriageReturn, TooManyFields, BinaryPoint, NoLineEnd}
+use Rattle.refusal_words.specs.declared.cause.Cause.TheVariants.{Blank, CarriageReturn, TooManyFields, BinaryPoint, NoLineEnd}
 use Rattle.refusal_words.specs.Causes.{cause_of}
 
 -- the words of each number from 0 on; 0 is no refusal
@@ -30,13 +30,13 @@ unfoldable pub refusal_words : ℕ → List ℕ
 refusal_words number = get_or words_in_order number (bytes "no refusal has this number")
 
 -- the words of a cause
-unfoldable pub cause_words : Cause → List ℕ
-cause_words Unseen = []
-cause_words Blank = bytes "; it has a blank where a tab belongs"
-cause_words CarriageReturn = bytes "; it has a carriage return"
-cause_words TooManyFields = bytes "; it has too many fields"
-cause_words BinaryPoint = bytes "; its point is in binary, not in base ten"
-cause_words NoLineEnd = bytes "; no line end follows it"
+unfoldable pub cause_words : Option Cause → List ℕ
+cause_words None = []
+cause_words (Some Blank) = bytes "; it has a blank where a tab belongs"
+cause_words (Some CarriageReturn) = bytes "; it has a carriage return"
+cause_words (Some TooManyFields) = bytes "; it has too many fields"
+cause_words (Some BinaryPoint) = bytes "; its point is in binary, not in base ten"
+cause_words (Some NoLineEnd) = bytes "; no line end follows it"
 
 -- the words of a line; a refusal of line 0 has none
 unfoldable pub line_words : ℕ → List ℕ

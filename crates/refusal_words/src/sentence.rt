@@ -5,13 +5,10 @@ ghost use Rattle.refusal_words.specs.Sentences.{refusal_words, cause_words, line
 
 use crate::cause::{Cause, cause_of};
 use writing::writer::Writer;
+use writing::written::Written;
 
-// A sentence: the first `length` of the bytes. The bytes past them are zero.
-#[derive(Clone, Copy)]
-pub struct Sentence {
-    pub bytes: [u8; Sentence::ROOM],
-    pub length: usize,
-}
+// What is said of a refusal. The bytes past it are zero.
+pub struct Sentence;
 
 impl Sentence {
     // How many bytes of a file's name are shown: a path has no more.
@@ -22,13 +19,11 @@ impl Sentence {
 }
 
 // The bytes of a name that are shown.
+#[tactic(auto, using(std::proofs::lemmas::List::take_min))]
 fn shown_name(name: &[u8]) -> &[u8]
     ensures { result.now ≡ take 4096 name.now }
 {
-    if name.len() <= Sentence::NAME_BYTES {
-        return name;
-    }
-    &name[..Sentence::NAME_BYTES]
+    &name[..Sentence::NAME_BYTES.min(name.len())]
 }
 
 // Writes the words of a line, where there is one.
@@ -89,13 +84,16 @@ fn write_words(start: Writer, number: usize, out: &mut [u8]) -> Writer
     }
 }
 
-// Writes the words of a cause.
-fn write_cause(start: Writer, cause: Cause, out: &mut [u8]) -> Writer
+// Writes the words of a cause, where there is one.
+#[tactic(auto, unfolding(crate::specs::Sentences::cause_words, listings::specs::Parts::bytes))]
+fn write_cause(start: Writer, cause: Option<Cause>, out: &mut [u8]) -> Writer
     requires { start.at + 42 ≤ length out.old }
     ensures { (result.at ≤ start.at + 42) × Put out.old start.at (cause_words cause) out.new result.at }
 {
+    let Some(cause) = cause else {
+        return start;
+    };
     match cause {
-        Cause::Unseen => start,
         Cause::Blank => start.word(out, b"; it has a blank where a tab belongs"),
         Cause::CarriageReturn => start.word(out, b"; it has a carriage return"),
         Cause::TooManyFields => start.word(out, b"; it has too many fields"),
@@ -111,15 +109,17 @@ fn write_sentence(name: &[u8], number: usize, line: usize, text: &[u8], out: &mu
 {
     let placed = write_place(name, line, out);
     let worded = write_words(placed, number, out);
-    let stop = write_cause(worded, cause_of(number, line, text), out).byte(out, b'\n');
-    stop.at
+    write_cause(worded, cause_of(number, line, text), out)
+        .byte(out, b'\n')
+        .at
 }
 
-// The sentence of a refusal: the name of the file, the number and the line of the refusal, and the text that was refused.
-pub fn explain(name: &[u8], number: usize, line: usize, text: &[u8]) -> Sentence
+// The sentence of a refusal: the name of the file, the number and the line of the refusal, and the text that was refused. It takes a number and no `Refusal`,
+// since `sentence` promises one for every number.
+pub fn explain(name: &[u8], number: usize, line: usize, text: &[u8]) -> Written<{ Sentence::ROOM }>
     ensures { Said (sentence name.now number line text.now) result.bytes result.length }
 {
     let mut bytes = [0u8; Sentence::ROOM];
     let length = write_sentence(name, number, line, text, &mut bytes);
-    Sentence { bytes, length }
+    Written { bytes, length }
 }

@@ -42,14 +42,15 @@ fn answer(
     listing: &[u8],
 ) {
     let printed = print_check(text, listing);
-    let bytes = printed.bytes;
-    let length = printed.length;
-    let _ = answers.write_all(&bytes[..length]);
-    let refusal = refusal_in(&bytes[..length]);
-    if refusal.listing {
-        tell_refusal(errors, refusal, listing_name, listing);
-    } else {
-        tell_refusal(errors, refusal, table_name, text);
+    let line = printed.as_slice();
+    let _ = answers.write_all(line);
+    if let Some(refusal) = refusal_in(line) {
+        let (name, refused) = if refusal.listing {
+            (listing_name, listing)
+        } else {
+            (table_name, text)
+        };
+        tell_refusal(errors, refusal, name, refused);
     }
 }
 
@@ -68,24 +69,19 @@ fn main(rt: HostRuntime) {
     let mut listing_name = [0u8; Source::NAME_BYTES];
     let mut text = [0u8; Printed::INPUT_BYTES];
     let mut listing = [0u8; Printed::INPUT_BYTES];
-    let first = read_argument(&rt, &errors, 1, &mut table_name, &mut text);
-    if !first.readable {
+    let Some(table_source) = read_argument(&rt, &errors, 1, &mut table_name, &mut text) else {
         return;
-    }
-    let second = read_argument(&rt, &errors, 2, &mut listing_name, &mut listing);
-    if !second.readable {
+    };
+    let Some(listing_source) = read_argument(&rt, &errors, 2, &mut listing_name, &mut listing)
+    else {
         return;
-    }
-    let table_named = first.named;
-    let text_length = first.length;
-    let listing_named = second.named;
-    let listing_length = second.length;
+    };
     answer(
         &rt,
         &errors,
-        &table_name[..table_named],
-        &text[..text_length],
-        &listing_name[..listing_named],
-        &listing[..listing_length],
+        &table_name[..table_source.named],
+        &text[..table_source.length],
+        &listing_name[..listing_source.named],
+        &listing[..listing_source.length],
     );
 }

@@ -21,20 +21,17 @@ fn search_allowed(sizes: Sizes, table: &[u8]) -> Expansion
     requires given { Given sizes.n table.now }
     ensures { result ≡ answer_expansion sizes.class sizes.family sizes.n sizes.k (at table.now) }
 {
-    let class = sizes.class;
-    let rows = rows_of(class, sizes.k);
+    let rows = rows_of(sizes.class, sizes.k);
     let leader = first_least(&rows, sizes, table);
     expansion_of(&rows, sizes, table, leader)
 }
 
 // Whether the bytes are a table of n inputs and m outputs and k is none that the documents refuse beside them.
+#[tactic(auto, unfolding(crate::specs::Inner::Answer::searchable))]
 fn allowed(class: Class, n: usize, m: usize, k: usize, table: &[u8]) -> bool
     ensures { result ≡ searchable class n m k table.now }
 {
-    if is_table(n, m, table) {
-        return judge_sizes(n, m, most_mixed(class), k) == 0;
-    }
-    false
+    is_table(n, m, table) && judge_sizes(n, m, most_mixed(class), k).is_ok()
 }
 
 // The record of the answer of a class and a family for a table of n inputs and m outputs, with k mixed inputs. Where these are not such numbers, or the

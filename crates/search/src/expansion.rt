@@ -24,13 +24,14 @@ impl Expansion {
 
     // The expansion with no product and no output inverted, whose mixed set is the k lowest inputs. A k above 8 is read as 8, so that the set stays
     // within the eight inputs; nothing is refused.
+    #[tactic(auto, unfolding(crate::specs::Expansion::empty_expansion))]
     pub fn empty(k: usize) -> Expansion
         ensures { result ≡ empty_expansion k }
     {
         let mixed = lowest_inputs(k);
         Expansion {
-            coefficients: [0u8; Expansion::PLACES],
-            blocks: [0u8; Expansion::PLACES],
+            coefficients: [0; Expansion::PLACES],
+            blocks: [0; Expansion::PLACES],
             mixed,
             fixed: 0,
             products: 0,
@@ -44,8 +45,5 @@ impl Expansion {
 fn lowest_inputs(k: usize) -> usize
     ensures { result ≡ 2 ^ min k 8 - 1 }
 {
-    if Limits::INPUTS < k {
-        return Expansion::PLACES - 1;
-    }
-    (1 << k) - 1
+    (1 << k.min(Limits::INPUTS)) - 1
 }

@@ -8,7 +8,8 @@ ghost use Rattle.pairs.specs.Inner.Pairs.{Given, Leads};
 ghost use Rattle.search.specs.Inner.Search.{choice_at};
 
 use crate::expansion::Expansion;
-use charges::cheapest::{cheapest_apart, cheapest_block, cheapest_first};
+use blocks::rows::ROWS;
+use charges::cheapest::{cheapest_block, cheapest_first};
 use expansions::families::counts_in;
 use expansions::kinds::apart;
 use lanes::expand::expand_blocks;
@@ -17,7 +18,7 @@ use lanes::terms::coefficients;
 use pairs::leader::Leader;
 
 // The first least choice of block j, and 0 where there is no block j.
-fn choice_at(rows: &[u64; 512], sizes: Sizes, lanes: &[u8], j: usize) -> u8
+fn choice_at(rows: &[u64; ROWS], sizes: Sizes, lanes: &[u8], j: usize) -> u8
     requires rows { Rows sizes.class sizes.k rows.now }
     requires limits { Limits sizes }
     requires lanes_len { length lanes.now ≡ 8 * 2 ^ (sizes.n - sizes.k) }
@@ -31,34 +32,31 @@ fn choice_at(rows: &[u64; 512], sizes: Sizes, lanes: &[u8], j: usize) -> u8
         let first = cheapest_first(rows, sizes, lanes);
         return first.choice;
     }
-    let class = sizes.class;
-    if apart(class, sizes.k) {
-        let least = cheapest_apart(rows, sizes, lanes, j);
+    if apart(sizes.class, sizes.k) {
+        let least = cheapest_block::<true>(rows, sizes, lanes, j);
         return least.choice;
     }
-    let least = cheapest_block(rows, sizes, lanes, j);
+    let least = cheapest_block::<false>(rows, sizes, lanes, j);
     least.choice
 }
 
 // The first least choice of each block, from the block functions.
-fn block_choices(rows: &[u64; 512], sizes: Sizes, lanes: &[u8]) -> [u8; Expansion::PLACES]
+fn block_choices(rows: &[u64; ROWS], sizes: Sizes, lanes: &[u8]) -> [u8; Expansion::PLACES]
     requires rows { Rows sizes.class sizes.k rows.now }
     requires limits { Limits sizes }
     requires lanes_len { length lanes.now ≡ 8 * 2 ^ (sizes.n - sizes.k) }
     ensures { result ≡ tabulate 256 (choice_at sizes.class sizes.family sizes.n sizes.k (at lanes.now)) }
 {
     let mut all = [0u8; Expansion::PLACES];
-    let mut j: usize = 0;
-    while j < Expansion::PLACES {
-        all[j] = choice_at(rows, sizes, lanes, j);
-        j += 1;
+    for (j, choice) in all.iter_mut().enumerate() {
+        *choice = choice_at(rows, sizes, lanes, j);
     }
     all
 }
 
-// The record of the leader of all the pairs, which begins as the empty record. The coefficient of the constant becomes the inversion mask; what the
+// The record of the leader of all the pairs. The coefficient of the constant becomes the inversion mask; what the
 // leader costs stands above the mask in its charge.
-pub fn expansion_of(rows: &[u64; 512], sizes: Sizes, table: &[u8], leader: Leader) -> Expansion
+pub fn expansion_of(rows: &[u64; ROWS], sizes: Sizes, table: &[u8], leader: Leader) -> Expansion
     requires rows { Rows sizes.class sizes.k rows.now }
     requires limits { Limits sizes }
     requires given { Given sizes.n table.now }
@@ -75,15 +73,14 @@ pub fn expansion_of(rows: &[u64; 512], sizes: Sizes, table: &[u8], leader: Leade
     let mut filled = coefficients(rows, sizes, mixed, &lanes[..room], &chosen);
     let inverted = filled[0];
     filled[0] = 0;
-    let family = sizes.family;
-    let counts = counts_in(family, leader.charge >> 8);
-    let mut found = Expansion::empty(sizes.k);
-    found.coefficients = filled;
-    found.blocks = chosen;
-    found.mixed = mixed;
-    found.fixed = fixed;
-    found.products = counts.products;
-    found.literals = counts.literals;
-    found.inverted = inverted;
-    found
+    let counts = counts_in(sizes.family, leader.charge >> 8);
+    Expansion {
+        coefficients: filled,
+        blocks: chosen,
+        mixed,
+        fixed,
+        products: counts.products,
+        literals: counts.literals,
+        inverted,
+    }
 }

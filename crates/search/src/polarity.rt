@@ -6,23 +6,19 @@ ghost use Rattle.search.specs.Expansion.{term_polarity};
 use crate::expansion::Expansion;
 use expansions::kinds::{Class, apart};
 use numbers::limits::Limits;
-use numbers::places::wide;
 use points::split::{split, spread};
 
 // The polarity of the place s of a block of two mixed inputs whose places choose apart, under the choice x.
+#[tactic(auto, unfolding(expansions::specs::Classes::own_polarity))]
 fn own_polarity(x: usize, s: usize) -> usize
     ensures { result ≡ own_polarity x s }
 {
-    if s == 0 {
-        return 0;
+    match s {
+        0 => 0,
+        1 => x >> 3,
+        2 => ((x >> 2) & 1) << 1,
+        _ => x & 3,
     }
-    if s == 1 {
-        return x >> 3;
-    }
-    if s == 2 {
-        return ((x >> 2) & 1) << 1;
-    }
-    x & 3
 }
 
 // The polarity of the place s of a block under the choice x.
@@ -30,13 +26,15 @@ fn place_polarity(class: Class, k: usize, x: usize, s: usize) -> usize
     ensures { result ≡ place_polarity class k x s }
 {
     if apart(class, k) {
-        return own_polarity(x, s);
+        own_polarity(x, s)
+    } else {
+        x
     }
-    x
 }
 
 // The polarity of the term t: the fixed polarity outside the mixed set, and in it that of the term's place under the choice of its block. Where n is
 // above 8 or a mask is none of n inputs it gives 0.
+#[tactic(auto, using(crate::proofs::polarity::Fitting::small), unfolding(crate::specs::Expansion::term_polarity, expansions::specs::Members::polarity))]
 pub fn term_polarity(
     class: Class,
     n: usize,
@@ -48,18 +46,10 @@ pub fn term_polarity(
 ) -> usize
     ensures { result ≡ term_polarity class n k mixed fixed blocks.now t }
 {
-    if Limits::INPUTS < n {
-        return 0;
-    }
-    let all: usize = 1 << n;
-    if all <= mixed {
-        return 0;
-    }
-    if all <= fixed {
+    if Limits::INPUTS < n || 1 << n <= mixed || 1 << n <= fixed {
         return 0;
     }
     let parts = split(n, mixed, t);
-    let j = parts.block;
-    let s = parts.place;
-    fixed + spread(n, mixed, place_polarity(class, k, wide(blocks[j]), s))
+    let choice = usize::from(blocks[parts.block]);
+    fixed + spread(n, mixed, place_polarity(class, k, choice, parts.place))
 }

@@ -1,3 +1,4 @@
 pub mod Counting
 pub mod Blocks
 pub mod Bytes
+pub mod Mapped

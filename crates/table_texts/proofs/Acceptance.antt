@@ -5,14 +5,12 @@ use mathlib.Core.List.{List, [], ◌∷◌, ◌++◌, append_assoc}
 use mathlib.Core.Path.{◌≡◌, sym, ap, ◌∙◌}
 use Prim.Native.Nat.{ℕ, ◌^◌, ◌≤◌, ◌<◌}
 use native.Mathlib.Omega.{arith}
+use Rattle.std.specs.Prelude.{Some, Ok}
 use Rattle.numbers.specs.Bytes.{at}
 use Rattle.listings.specs.Parts.{parts, bytes}
 use Rattle.listings.specs.Listing.{line, decimal}
 use Rattle.listings.proofs.Joined.{AllPlain, parts-lines}
 use Rattle.listings.proofs.Meaning.{plain-decimal}
-use Rattle.table_texts.specs.declared.first.KindRead.TheVariants as kind
-use Rattle.table_texts.specs.declared.first.FirstLine.TheVariants as first
-use Rattle.table_texts.specs.declared.read.ReadAnswer.TheVariants as answer
 use Rattle.table_texts.specs.declared.sizes.Design.{Design}
 use Rattle.table_texts.specs.First.{dash_kind, kind_of, table_word}
 use Rattle.table_texts.specs.Design.{DesignSized}
@@ -27,14 +25,14 @@ use Rattle.table_texts.proofs.Points.{points-written}
 abbrev pub dash_design : Design → Design
 dash_design d = record { n = d.n; m = d.m; kind = dash_kind d.n; family = d.family }
 
-pub design-judged : (d : Design) → DesignSized d → judged_first (first.Table d) ≡ answer.Given d
+pub design-judged : (d : Design) → DesignSized d → judged_first (Some d) ≡ Ok d
 unfolding judged_first
 design-judged d g = rw (design-accepted d g)
 
 -- a text whose first line is that of the design d, with any characters that say its kind of k: the design is judged, and then the lines after it
-pub first_read : (k : List ℕ) (d : Design) (rest : List ℕ) → d.n < 10 → d.m < 10 → kind_of d.n k ≡ kind.Is d.kind
+pub first_read : (k : List ℕ) (d : Design) (rest : List ℕ) → d.n < 10 → d.m < 10 → kind_of d.n k ≡ Some d.kind
     → reading (design_line d k ++ rest)
-    ≡ opened (judged_first (first.Table d)) (from_second (parts 10 rest).first (parts 10 rest).others)
+    ≡ opened (judged_first (Some d)) (from_second (parts 10 rest).first (parts 10 rest).others)
 unfolding reading all_lines design_line
 first_read k d rest hn hm e =
     let fs : List (List ℕ) = decimal d.n ∷ decimal d.m ∷ k ∷ [] in
@@ -49,7 +47,7 @@ dash-written-out d rest hn hm =
     first_read (bytes "-") (dash_design d) rest hn hm (kind-dash d.n)
     ∙ sym (first_read (dash_characters d.n) (dash_design d) rest hn hm (dash-said d.n))
 
-pub text-accepted : (k : List ℕ) (d : Design) (t : List ℕ) → kind_of d.n k ≡ kind.Is d.kind → Accepted d t → reading (text_with k d t) ≡ given d t
+pub text-accepted : (k : List ℕ) (d : Design) (t : List ℕ) → kind_of d.n k ≡ Some d.kind → Accepted d t → reading (text_with k d t) ≡ given d t
 unfolding with_design text_with
 text-accepted k d t e g =
     let few : d.n ≤ 8 = g.sized.inputs.1 in
@@ -66,4 +64,4 @@ pub dash-text-accepted : (d : Design) (t : List ℕ) → Accepted d t → kind_f
 unfolding dash_text
 dash-text-accepted d t g e =
     let means : d.kind ≡ dash_kind d.n = dash-only d.n d.kind (sized-digit d.n d.kind g.sized.mixed) e in
-    text-accepted (bytes "-") d t (kind-dash d.n ∙ ap kind.Is (sym means)) g
+    text-accepted (bytes "-") d t (kind-dash d.n ∙ ap Some (sym means)) g

@@ -7,6 +7,10 @@ use Prim.Native.Nat.{ℕ, ◌^◌, ◌≤◌, ◌<◌}
 use native.Mathlib.Decide.{dec_le, dec_lt}
 use native.Mathlib.Omega.{arith}
 use lib.ListN.{length}
+use Rattle.std.specs.Prelude.{Option, Some, None}
+use Rattle.std.proofs.lemmas.Option.{none-some}
+use Rattle.numbers.specs.declared.refusals.Refusal.{Refusal}
+use Rattle.numbers.specs.declared.refusals.Refusal.TheVariants.{BrokenLine, InputCount, OutputCount, MixedCount, PointOrder, TextEnd}
 use Rattle.numbers.specs.Bytes.{at}
 use Rattle.numbers.proofs.Shifts.{points-le}
 use Rattle.expansions.specs.declared.families.Family.{Family}
@@ -23,8 +27,6 @@ use Rattle.lines.specs.FirstBad.{line_after, end_line, NoEnd, OnLine}
 use Rattle.lines.proofs.RowLines.{table-kind}
 use Rattle.lines.proofs.FirstBad.{first-whole}
 use Rattle.lines.proofs.Decided.{Follows, Decided, decided}
-use Rattle.table_texts.specs.declared.first.FirstLine.{FirstLine}
-use Rattle.table_texts.specs.declared.first.FirstLine.TheVariants as first
 use Rattle.table_texts.specs.declared.sizes.Design.{Design}
 use Rattle.table_texts.specs.Design.{KindSized, KindFor, DesignSized}
 use Rattle.table_texts.specs.First.{table_word, first_line}
@@ -37,11 +39,8 @@ use Rattle.table_texts.proofs.Refusals.{kind-says, line-said}
 
 -- ---- the first line
 
-wrong-table : {d : Design} → first.Wrong ≡ first.Table d → ⊥
-wrong-table e = let z : ◌≡◌ {A = ℕ} 0 1 = cc in omega arith
-
 -- a text that begins with a first line says its design, and has byte 10 after it
-line-says : (s : List ℕ) (g : TableLine s) → (first_line (parts 10 s).first ≡ first.Table g.design) × ((parts 10 s).others ≡ [] → ⊥)
+line-says : (s : List ℕ) (g : TableLine s) → (first_line (parts 10 s).first ≡ Some g.design) × ((parts 10 s).others ≡ [] → ⊥)
 unfolding design_line
 line-says s g =
     let d = g.design in
@@ -54,9 +53,9 @@ line-says s g =
 
 has-line : (s : List ℕ) → Dec (TableLine s)
 has-line s = go (dec_lt (length (parts 10 s).first) (length s)) where
-  by-line : length (parts 10 s).first < length s → (x : FirstLine) → first_line (parts 10 s).first ≡ x → Dec (TableLine s)
-  by-line h (first.Table d) says = yes (line-said s h d says)
-  by-line h first.Wrong says = no (λ g. wrong-table (sym says ∙ (line-says s g).0))
+  by-line : length (parts 10 s).first < length s → (x : Option Design) → first_line (parts 10 s).first ≡ x → Dec (TableLine s)
+  by-line h (Some d) says = yes (line-said s h d says)
+  by-line h None says = no (λ g. none-some _ (sym says ∙ (line-says s g).0))
 
   go : Dec (length (parts 10 s).first < length s) → Dec (TableLine s)
   go (yes h) = by-line h (first_line (parts 10 s).first) refl
@@ -83,10 +82,10 @@ kind-sized n Kronecker = yes tt
 -- ---- the text
 
 -- accepted, or refused
-abbrev Outcome : List ℕ → (ℕ → ℕ → Type 0) → Type 0
-Outcome s P = ((d : Design) × (t : List ℕ) × Accepted d t × IsText s d t) ⊎ ((x : ℕ) × (l : ℕ) × P x l)
+abbrev Outcome : List ℕ → (Refusal → ℕ → Type 0) → Type 0
+Outcome s P = ((d : Design) × (t : List ℕ) × Accepted d t × IsText s d t) ⊎ ((why : Refusal) × (l : ℕ) × P why l)
 
-module _ (s : List ℕ) (P : ℕ → ℕ → Type 0) (words : TextRefusals s P) where
+module _ (s : List ℕ) (P : Refusal → ℕ → Type 0) (words : TextRefusals s P) where
   module _ (g : TableLine s) (sized : DesignSized g.design) where
     abbrev d : Design
     d = g.design
@@ -134,15 +133,15 @@ module _ (s : List ℕ) (P : ℕ → ℕ → Type 0) (words : TextRefusals s P) 
       text-is e (inr h) = inr (h.0, written e (bytes "-") h.1)
 
       begun : (r : List ℕ) → c.rest ≡ r → NoOn d.m c.rest → NoEnd c.rest → Outcome s P
-      begun [] e none unended = inr (6, line_after pass.before, words.stops pass e)
+      begun [] e none unended = inr (TextEnd, line_after pass.before, words.stops pass e)
       begun (b ∷ r) e none unended =
-          inr (1, line_after pass.before, words.line pass (λ z. omega (arith, ap length (sym e ∙ z))) none unended)
+          inr (BrokenLine, line_after pass.before, words.line pass (λ z. omega (arith, ap length (sym e ∙ z))) none unended)
 
       go : Follows d.n (row_line (table_grammar d.n d.m)) (bytes "on") fields (OnLine d.m) (table-kind d.n d.m) low c.values c.rest → Outcome s P
       go (Follows.ends e) = inl (d, c.values, record { sized = sized; table = table }, text-is e g.says.1)
       go (Follows.begins none unended) = begun c.rest refl none unended
-      go (Follows.misplaced p o more value none e) = inr (5, line_after pass.before, words.point pass p o more value e none)
-      go (Follows.continues b more e) = inr (6, line_after (pass.before ++ end_line), words.follows pass b more e)
+      go (Follows.misplaced p o more value none e) = inr (PointOrder, line_after pass.before, words.point pass p o more value e none)
+      go (Follows.continues b more e) = inr (TextEnd, line_after (pass.before ++ end_line), words.follows pass b more e)
 
   -- line 1, in the order 1, 2, 3, 4
   by-line : TableLine s → Outcome s P
@@ -151,19 +150,19 @@ module _ (s : List ℕ) (P : ℕ → ℕ → Type 0) (words : TextRefusals s P) 
     where
       go : Dec (KindFor g.design.family g.design.kind) → Dec ((1 ≤ g.design.n) × (g.design.n ≤ 8)) → Dec ((1 ≤ g.design.m) × (g.design.m ≤ 8))
           → Dec (KindSized g.design.n g.design.kind) → Outcome s P
-      go (no h) i o k = inr (1, 1, words.kind g h)
-      go (yes h) (no i) o k = inr (2, 1, words.inputs g h i)
-      go (yes h) (yes i) (no o) k = inr (3, 1, words.outputs g h i o)
-      go (yes h) (yes i) (yes o) (no k) = inr (4, 1, words.mixed g i o k)
+      go (no h) i o k = inr (BrokenLine, 1, words.kind g h)
+      go (yes h) (no i) o k = inr (InputCount, 1, words.inputs g h i)
+      go (yes h) (yes i) (no o) k = inr (OutputCount, 1, words.outputs g h i o)
+      go (yes h) (yes i) (yes o) (no k) = inr (MixedCount, 1, words.mixed g i o k)
       go (yes h) (yes i) (yes o) (yes k) =
           let sized : DesignSized g.design = record { inputs = i; outputs = o; mixed = k; family = h } in
           later g sized
           (decided g.design.n (row_line (table_grammar g.design.n g.design.m)) (bytes "on") (λ p o. decimal p ∷ output_bytes g.design.m o ∷ [])
           (OnLine g.design.m) (table-kind g.design.n g.design.m) (low g sized) g.rest)
 
-  pub text-decided : ((d : Design) × (t : List ℕ) × Accepted d t × IsText s d t) ⊎ ((x : ℕ) × (l : ℕ) × P x l)
+  pub text-decided : ((d : Design) × (t : List ℕ) × Accepted d t × IsText s d t) ⊎ ((why : Refusal) × (l : ℕ) × P why l)
   text-decided = go s refl (has-line s) where
     go : (r : List ℕ) → s ≡ r → Dec (TableLine s) → Outcome s P
     go r e (yes g) = by-line g
-    go [] e (no none) = inr (6, 1, words.none e)
-    go (b ∷ r) e (no none) = inr (1, 1, words.first (λ z. omega (arith, ap length (sym e ∙ z))) none)
+    go [] e (no none) = inr (TextEnd, 1, words.none e)
+    go (b ∷ r) e (no none) = inr (BrokenLine, 1, words.first (λ z. omega (arith, ap length (sym e ∙ z))) none)

@@ -1,13 +1,15 @@
--- What a design's refusal of 0 says: it is a design of document 01 or 02 (`design-none`); and back (`design-accepted`). A design whose kind is a class
+-- What a judgement with no refusal says of a design: it is one of document 01 or 02 (`design-none`); and back (`design-accepted`). A design whose kind is a class
 -- and a number k is the one with these sizes (`mixed-design`), which are within the limits of the class (`mixed-sized`). One whose kind is `K` is of
 -- family one (`kronecker-design`).
-use mathlib.Core.Bool.{Bool, true, false, ◌&&◌}
+use mathlib.Core.Bool.{Bool, true, false, ◌&&◌, false≢true}
 use mathlib.Core.Path.{◌≡◌, refl, ap, ap₂, subst}
 use Prim.Native.Nat.{ℕ, ◌≤◌}
 use native.Mathlib.Omega.{arith}
 use lib.Dec.{leb}
+use Rattle.std.specs.Prelude.{Ok, is_ok}
+use Rattle.numbers.specs.declared.refusals.Refusal.TheVariants.{InputCount, OutputCount}
 use Rattle.numbers.specs.Refusals.{unless, table_refusal, TableSized, Sized}
-use Rattle.numbers.proofs.refusals.Judging.{table_none, table-accepted, sizes-none, sizes-accepted, sizes-most}
+use Rattle.numbers.proofs.refusals.Judging.{Passed, number_told, table_none, table-accepted, sizes-none, sizes-accepted, sizes-most}
 use Rattle.expansions.specs.declared.families.Family.{Family}
 use Rattle.expansions.specs.declared.families.Family.TheVariants.{One, Two}
 use Rattle.expansions.specs.declared.kinds.Class.{Class}
@@ -18,20 +20,20 @@ use Rattle.table_texts.specs.declared.sizes.Sizes.{Sizes}
 use Rattle.table_texts.specs.declared.sizes.Design.{Design}
 use Rattle.table_texts.specs.Design.{mixed_design, kronecker_design, kind_refusal, design_refusal, KindSized, KindFor, DesignSized}
 
--- ---- a refusal of 0
+-- ---- no refusal
 
-kind-none : (family : Family) (n m : ℕ) (x : Kind) → kind_refusal family n m x ≡ 0 → TableSized n m × KindSized n x × KindFor family x
+kind-none : (family : Family) (n m : ℕ) (x : Kind) → Passed (kind_refusal family n m x) → TableSized n m × KindSized n x × KindFor family x
 kind-none family n m (Mixed C k) e = let s = sizes-none n m (most_mixed C) k e in (record { inputs = s.inputs; outputs = s.outputs }, s.mixed, tt)
 kind-none One n m Kronecker e = (table_none n m e, tt, tt)
-kind-none Two n m Kronecker e = absurd (omega arith)
+kind-none Two n m Kronecker e = absurd (false≢true (ap is_ok e))
 
-pub design-none : (d : Design) → design_refusal d ≡ 0 → DesignSized d
+pub design-none : (d : Design) → Passed (design_refusal d) → DesignSized d
 unfolding design_refusal
 design-none d e =
     let s = kind-none d.family d.n d.m d.kind e in
     record { inputs = s.0.inputs; outputs = s.0.outputs; mixed = s.1; family = s.2 }
 
-kind-accepted : (family : Family) (n m : ℕ) (x : Kind) → TableSized n m → KindSized n x → KindFor family x → kind_refusal family n m x ≡ 0
+kind-accepted : (family : Family) (n m : ℕ) (x : Kind) → TableSized n m → KindSized n x → KindFor family x → Passed (kind_refusal family n m x)
 kind-accepted family n m (Mixed C k) s h g = sizes-accepted n m (most_mixed C) k (record { inputs = s.inputs; outputs = s.outputs; mixed = h })
 kind-accepted One n m Kronecker s h g = table-accepted n m s
 kind-accepted Two n m Kronecker s h g = absurd g
@@ -61,24 +63,24 @@ kronecker-design d e s =
 pub sized-mixed : (z : Sizes) → Sized z.n z.m (most_mixed z.class) z.k → DesignSized (mixed_design z)
 sized-mixed z s = record { inputs = s.inputs; outputs = s.outputs; mixed = s.mixed; family = tt }
 
-pub design-accepted : (d : Design) → DesignSized d → design_refusal d ≡ 0
+pub design-accepted : (d : Design) → DesignSized d → Passed (design_refusal d)
 unfolding design_refusal
 design-accepted d s = kind-accepted d.family d.n d.m d.kind (table-sized d s) s.mixed s.family
 
--- ---- a refusal of a design is 1, 2, 3 or 4
+-- ---- the number of a design's refusal is 1, 2, 3 or 4
 
-table-most : (n m : ℕ) → table_refusal n m ≤ 4
+table-most : (n m : ℕ) → number_told (table_refusal n m) ≤ 4
 unfolding table_refusal
 table-most n m = go (leb 1 n && leb n 8) (leb 1 m && leb m 8) where
-  go : (a b : Bool) → unless a 2 (unless b 3 0) ≤ 4
+  go : (a b : Bool) → number_told (unless a InputCount (unless b OutputCount (Ok tt))) ≤ 4
   go false b = omega arith
   go true false = omega arith
   go true true = omega arith
 
-pub design-most : (d : Design) → design_refusal d ≤ 4
+pub design-most : (d : Design) → number_told (design_refusal d) ≤ 4
 unfolding design_refusal
 design-most d = go d.family d.kind where
-  go : (family : Family) (x : Kind) → kind_refusal family d.n d.m x ≤ 4
+  go : (family : Family) (x : Kind) → number_told (kind_refusal family d.n d.m x) ≤ 4
   go family (Mixed C k) = sizes-most d.n d.m (most_mixed C) k
   go One Kronecker = table-most d.n d.m
   go Two Kronecker = omega arith

@@ -8,6 +8,10 @@ use mathlib.Core.Path.{◌≡◌, refl, sym, ap, ap₂, subst, ◌∙◌}
 use Prim.Native.Nat.{ℕ, ◌<◌}
 use native.Mathlib.Omega.{arith}
 use lib.Dec.{eqb, lit<}
+use Rattle.std.specs.Prelude.{Option, Some, None, Err}
+use Rattle.std.proofs.lemmas.Option.{none-some}
+use Rattle.numbers.specs.declared.refusals.Refusal.TheVariants.{BrokenLine}
+use Rattle.numbers.specs.Refusals.{declined}
 use Rattle.expansions.specs.declared.families.Family.{Family}
 use Rattle.expansions.specs.declared.families.Family.TheVariants.{One, Two}
 use Rattle.expansions.specs.declared.kinds.Class.{Class}
@@ -21,22 +25,15 @@ use Rattle.listings.proofs.Joined.{Plain, AllPlain, parts-fields}
 use Rattle.listings.proofs.Meaning.{plain-decimal}
 use Rattle.listings.proofs.Forms.{plain-mixed_field}
 use Rattle.listings.proofs.Words.{same-equal}
-use Rattle.fields.specs.declared.words.FamilyRead.{FamilyRead}
 use Rattle.fields.specs.declared.heading.Heading.{Heading}
-use Rattle.fields.specs.declared.heading.Heading.TheVariants as heading
-use Rattle.fields.specs.declared.values.MixedRead.{MixedRead}
-use Rattle.fields.specs.declared.values.MixedRead.TheVariants as mixed
-use Rattle.fields.specs.Fields.{digit, one_digit, mixed_said, family_of, heading_said}
+use Rattle.fields.specs.declared.values.Mixed as read
+use Rattle.fields.specs.Fields.{and_then, digit, one_digit, mixed_said, family_of, heading_said}
 use Rattle.fields.proofs.Written.{one_digit-decimal, mixed_is_said}
 use Rattle.fields.proofs.FieldsRead.{one_digit-read, one_digit-lt, mixed-read}
 use Rattle.fields.proofs.Headed.{list-each, family-said, family-read, heading-fields}
-use Rattle.table_texts.specs.declared.first.KindRead.{KindRead}
-use Rattle.table_texts.specs.declared.first.KindRead.TheVariants as kind
-use Rattle.table_texts.specs.declared.first.FirstLine.TheVariants as first
 use Rattle.table_texts.specs.declared.sizes.Design.{Design}
-use Rattle.table_texts.specs.declared.read.ReadAnswer.TheVariants as answer
 use Rattle.table_texts.specs.Design.{design_refusal, KindSized}
-use Rattle.table_texts.specs.First.{mixed_kind, dash_kind, kind_of, kind_then, table_line, table_word, first_line}
+use Rattle.table_texts.specs.First.{mixed_kind, dash_kind, kind_of, table_line, table_word, first_line}
 use Rattle.table_texts.specs.Inner.Reading.{judged_first}
 use Rattle.table_texts.specs.TableTexts.{kind_field, dash_characters, KindCharacters}
 use Rattle.table_texts.specs.Refusals.{OneDigit}
@@ -49,37 +46,35 @@ sized-digit n (Mixed C k) s = omega (arith, s.0, most-three C)
 sized-digit n Kronecker s = tt
 
 -- a field that says a class and its k is not a word that says none
-other-than : (w f : List ℕ) (C : Class) (k : ℕ) → mixed_said w ≡ mixed.Wrong → mixed_said f ≡ mixed.Is C k → same f w ≡ false
-other-than w f C k wrong said = go (same f w) refl where
+other-than : (w f : List ℕ) (x : read.Mixed) → mixed_said w ≡ None → mixed_said f ≡ Some x → same f w ≡ false
+other-than w f x wrong said = go (same f w) refl where
   go : (t : Bool) → same f w ≡ t → t ≡ false
   go false h = refl
-  go true h =
-      let both : mixed.Wrong ≡ mixed.Is C k = sym wrong ∙ ap mixed_said (sym (same-equal f w h)) ∙ said in
-      let z : ◌≡◌ {A = ℕ} 0 1 = cc in absurd (omega arith)
+  go true h = absurd (none-some _ (sym wrong ∙ ap mixed_said (sym (same-equal f w h)) ∙ said))
 
-pub kind-mixed : (n : ℕ) (C : Class) (k : ℕ) → k < 10 → kind_of n (mixed_field C k) ≡ kind.Is (Mixed C k)
+pub kind-mixed : (n : ℕ) (C : Class) (k : ℕ) → k < 10 → kind_of n (mixed_field C k) ≡ Some (Mixed C k)
 unfolding kind_of mixed_said one_digit digit bytes
 kind-mixed n C k h =
     let said = mixed_is_said C k h in
-    let dash = other-than (bytes "-") (mixed_field C k) C k refl said in
-    let letter = other-than (bytes "K") (mixed_field C k) C k refl said in
+    let dash = other-than (bytes "-") (mixed_field C k) _ refl said in
+    let letter = other-than (bytes "K") (mixed_field C k) _ refl said in
     rw (dash, letter) (ap mixed_kind said)
 
-pub kind-dash : (n : ℕ) → kind_of n (bytes "-") ≡ kind.Is (dash_kind n)
+pub kind-dash : (n : ℕ) → kind_of n (bytes "-") ≡ Some (dash_kind n)
 unfolding kind_of same bytes
 kind-dash n = refl
 
-pub kind-kronecker : (n : ℕ) → kind_of n (bytes "K") ≡ kind.Is Kronecker
+pub kind-kronecker : (n : ℕ) → kind_of n (bytes "K") ≡ Some Kronecker
 unfolding kind_of same bytes
 kind-kronecker n = refl
 
 -- the characters that are written for a kind say it
-pub kind-written : (n : ℕ) (x : Kind) → OneDigit x → kind_of n (kind_field x) ≡ kind.Is x
+pub kind-written : (n : ℕ) (x : Kind) → OneDigit x → kind_of n (kind_field x) ≡ Some x
 unfolding kind_field
 kind-written n (Mixed C k) l = kind-mixed n C k l
 kind-written n Kronecker l = kind-kronecker n
 
-pub kind-said : (n : ℕ) (x : Kind) → KindSized n x → kind_of n (kind_field x) ≡ kind.Is x
+pub kind-said : (n : ℕ) (x : Kind) → KindSized n x → kind_of n (kind_field x) ≡ Some x
 kind-said n x s = kind-written n x (sized-digit n x s)
 
 -- "`f2`, or `f1` where n = 1", in characters
@@ -98,29 +93,26 @@ dash-digit n = go (eqb n 1) where
   go false = lit< tt
 
 -- they say what `-` means, whether or not it is within the limits, and are those of no other kind
-pub dash-said : (n : ℕ) → kind_of n (dash_characters n) ≡ kind.Is (dash_kind n)
+pub dash-said : (n : ℕ) → kind_of n (dash_characters n) ≡ Some (dash_kind n)
 dash-said n = ap (kind_of n) (sym (dash-characters n)) ∙ kind-written n (dash_kind n) (dash-digit n)
 
 pub dash-only : (n : ℕ) (x : Kind) → OneDigit x → kind_field x ≡ dash_characters n → x ≡ dash_kind n
 dash-only n x l h =
-    let both : kind.Is x ≡ kind.Is (dash_kind n) = sym (kind-written n x l) ∙ ap (kind_of n) h ∙ dash-said n in cc
+    let both : Some x ≡ Some (dash_kind n) = sym (kind-written n x l) ∙ ap (kind_of n) h ∙ dash-said n in cc
 
-wrong-kind : {x : Kind} → kind.Wrong ≡ kind.Is x → ⊥
-wrong-kind e = let z : ◌≡◌ {A = ℕ} 0 1 = cc in omega arith
-
-class-read : (f : List ℕ) (x : Kind) (y : MixedRead) → mixed_said f ≡ y → mixed_kind y ≡ kind.Is x → f ≡ kind_field x
+class-read : (f : List ℕ) (x : Kind) (y : Option read.Mixed) → mixed_said f ≡ y → mixed_kind y ≡ Some x → f ≡ kind_field x
 unfolding kind_field
-class-read f x (mixed.Is C k) h e =
-    let same : Mixed C k ≡ x = cc in
-    (mixed-read f C k h).0 ∙ ap kind_field same
-class-read f x mixed.Wrong h e = absurd (wrong-kind e)
+class-read f x (Some y) h e =
+    let same : Mixed y.class y.k ≡ x = cc in
+    (mixed-read f y h).0 ∙ ap kind_field same
+class-read f x None h e = absurd (none-some _ e)
 
 -- characters that say a kind are those that are written for it, or `-` where it means this kind
-pub kind-read : (n : ℕ) (f : List ℕ) (x : Kind) → kind_of n f ≡ kind.Is x → KindCharacters n x f
+pub kind-read : (n : ℕ) (f : List ℕ) (x : Kind) → kind_of n f ≡ Some x → KindCharacters n x f
 unfolding kind_of kind_field
 kind-read n f x e = go (same f (bytes "-")) refl (same f (bytes "K")) refl e where
   go : (t : Bool) → same f (bytes "-") ≡ t → (u : Bool) → same f (bytes "K") ≡ u
-      → cond t (kind.Is (dash_kind n)) (cond u (kind.Is Kronecker) (mixed_kind (mixed_said f))) ≡ kind.Is x → KindCharacters n x f
+      → cond t (Some (dash_kind n)) (cond u (Some Kronecker) (mixed_kind (mixed_said f))) ≡ Some x → KindCharacters n x f
   go true h u k g =
       let is : dash_kind n ≡ x = cc in
       inr (ap kind_field (sym is) ∙ dash-characters n, same-equal f (bytes "-") h)
@@ -129,17 +121,17 @@ kind-read n f x e = go (same f (bytes "-")) refl (same f (bytes "K")) refl e whe
       inl (same-equal f (bytes "K") k ∙ ap kind_field is)
   go false h false k g = inl (class-read f x (mixed_said f) refl g)
 
-class-digit : (f : List ℕ) (x : Kind) (y : MixedRead) → mixed_said f ≡ y → mixed_kind y ≡ kind.Is x → OneDigit x
-class-digit f x (mixed.Is C k) h e =
-    let same : Mixed C k ≡ x = cc in
-    subst OneDigit same (mixed-read f C k h).1
-class-digit f x mixed.Wrong h e = absurd (wrong-kind e)
+class-digit : (f : List ℕ) (x : Kind) (y : Option read.Mixed) → mixed_said f ≡ y → mixed_kind y ≡ Some x → OneDigit x
+class-digit f x (Some y) h e =
+    let same : Mixed y.class y.k ≡ x = cc in
+    subst OneDigit same (mixed-read f y h).1
+class-digit f x None h e = absurd (none-some _ e)
 
 -- and where the kind has a k it is one digit
-pub kind-digit : (n : ℕ) (f : List ℕ) (x : Kind) → kind_of n f ≡ kind.Is x → OneDigit x
+pub kind-digit : (n : ℕ) (f : List ℕ) (x : Kind) → kind_of n f ≡ Some x → OneDigit x
 unfolding kind_of
 kind-digit n f x e = go (same f (bytes "-")) (same f (bytes "K")) e where
-  go : (t u : Bool) → cond t (kind.Is (dash_kind n)) (cond u (kind.Is Kronecker) (mixed_kind (mixed_said f))) ≡ kind.Is x → OneDigit x
+  go : (t u : Bool) → cond t (Some (dash_kind n)) (cond u (Some Kronecker) (mixed_kind (mixed_said f))) ≡ Some x → OneDigit x
   go true u g = let is : dash_kind n ≡ x = cc in subst OneDigit is (dash-digit n)
   go false true g = let is : Kronecker ≡ x = cc in subst OneDigit is tt
   go false false g = class-digit f x (mixed_said f) refl g
@@ -165,14 +157,14 @@ plain-kind (Mixed C k) = plain-mixed_field C k
 plain-kind Kronecker = (lit< tt, tt)
 
 -- the characters that say a kind are free of separators
-pub plain-said : (n : ℕ) (f : List ℕ) (x : Kind) → kind_of n f ≡ kind.Is x → Plain f
+pub plain-said : (n : ℕ) (f : List ℕ) (x : Kind) → kind_of n f ≡ Some x → Plain f
 plain-said n f x e = go (kind-read n f x e) where
   go : KindCharacters n x f → Plain f
   go (inl h) = rw h (plain-kind x)
   go (inr h) = rw h.1 plain-dash
 
-pub design-said : (d : Design) (k : List ℕ) → d.n < 10 → d.m < 10 → kind_of d.n k ≡ kind.Is d.kind
-    → first_line (table_word d.family ++ tabbed (decimal d.n ∷ decimal d.m ∷ k ∷ [])) ≡ first.Table d
+pub design-said : (d : Design) (k : List ℕ) → d.n < 10 → d.m < 10 → kind_of d.n k ≡ Some d.kind
+    → first_line (table_word d.family ++ tabbed (decimal d.n ∷ decimal d.m ∷ k ∷ [])) ≡ Some d
 unfolding first_line fields
 design-said d k hn hm e =
     let fs : List (List ℕ) = decimal d.n ∷ decimal d.m ∷ k ∷ [] in
@@ -187,7 +179,7 @@ design-said d k hn hm e =
 
 -- "`K` is for `table` only; with `table2` it is refusal 1", whatever digits stand for n and m
 pub kronecker-two : (n m : ℕ) → n < 10 → m < 10
-    → judged_first (first_line (table_word Two ++ tabbed (decimal n ∷ decimal m ∷ kind_field Kronecker ∷ []))) ≡ answer.Refused 1 1
+    → judged_first (first_line (table_word Two ++ tabbed (decimal n ∷ decimal m ∷ kind_field Kronecker ∷ []))) ≡ Err (declined BrokenLine 1)
 unfolding judged_first design_refusal kind_field
 kronecker-two n m hn hm =
     rw (design-said (record { n = n; m = m; kind = Kronecker; family = Two }) (kind_field Kronecker) hn hm (kind-kronecker n))
@@ -198,34 +190,27 @@ kronecker-two n m hn hm =
 pub record DesignRead (l : List ℕ) (d : Design) : Type 0 where
   pub has_kind_field : List ℕ
   pub characters : l ≡ table_word d.family ++ tabbed (decimal d.n ∷ decimal d.m ∷ has_kind_field ∷ [])
-  pub said : kind_of d.n has_kind_field ≡ kind.Is d.kind
+  pub said : kind_of d.n has_kind_field ≡ Some d.kind
   pub n_digit : d.n < 10
   pub m_digit : d.m < 10
 
-wrong-table : {d : Design} → first.Wrong ≡ first.Table d → ⊥
-wrong-table e = let z : ◌≡◌ {A = ℕ} 0 1 = cc in omega arith
+table-read : (heading : Option Heading) (f : List ℕ) (d : Design) → table_line heading f ≡ Some d
+    → (heading ≡ Some (record { family = d.family; n = d.n; m = d.m })) × (kind_of d.n f ≡ Some d.kind)
+table-read (Some h) f d e = go (kind_of h.n f) refl e where
+  go : (x : Option Kind) → kind_of h.n f ≡ x → and_then x None (λ x. Some (record { n = h.n; m = h.m; kind = x; family = h.family })) ≡ Some d
+      → (Some h ≡ Some (record { family = d.family; n = d.n; m = d.m })) × (kind_of d.n f ≡ Some d.kind)
+  go (Some x) says g =
+      let same : record { n = h.n; m = h.m; kind = x; family = h.family } ≡ d = cc in
+      (ap (λ (y : Design). Some (record { family = y.family; n = y.n; m = y.m })) same, ap (λ (y : Design). kind_of y.n f) (sym same) ∙ says ∙ ap (λ (y : Design). Some y.kind) same)
+  go None says g = absurd (none-some _ g)
+table-read None f d e = absurd (none-some _ e)
 
-kind-then : (family : Family) (a b : ℕ) (w : KindRead) (d : Design)
-    → kind_then w (λ x. first.Table (record { n = a; m = b; kind = x; family = family })) ≡ first.Table d
-    → (a ≡ d.n) × (b ≡ d.m) × (w ≡ kind.Is d.kind) × (family ≡ d.family)
-kind-then family a b (kind.Is c) d e =
-    let same : record { n = a; m = b; kind = c; family = family } ≡ d = cc in
-    (ap (λ (y : Design). y.n) same, ap (λ (y : Design). y.m) same, ap (λ (y : Design). kind.Is y.kind) same, ap (λ (y : Design). y.family) same)
-kind-then family a b kind.Wrong d e = absurd (wrong-table e)
-
-table-read : (h : Heading) (f : List ℕ) (d : Design) → table_line h f ≡ first.Table d
-    → (h ≡ heading.Is d.family d.n d.m) × (kind_of d.n f ≡ kind.Is d.kind)
-table-read (heading.Is F a b) f d e =
-    let said = kind-then F a b (kind_of a f) d e in
-    (cc (said.0, said.1, said.3), ap (λ (y : ℕ). kind_of y f) (sym said.0) ∙ said.2)
-table-read heading.Wrong f d e = absurd (wrong-table e)
-
-pub design-read : (l : List ℕ) (d : Design) → first_line l ≡ first.Table d → DesignRead l d
+pub design-read : (l : List ℕ) (d : Design) → first_line l ≡ Some d → DesignRead l d
 unfolding first_line fields
 design-read l d e =
-    let x : FamilyRead = family_of 4 (table_word One) (table_word Two) l in
+    let x : Option Family = family_of 4 (table_word One) (table_word Two) l in
     let line = table-read (heading_said x (one_digit (field 1 l)) (one_digit (field 2 l))) (field 3 l) d e in
-    let said = heading-fields x (one_digit (field 1 l)) (one_digit (field 2 l)) d.family d.n d.m line.0 in
+    let said = heading-fields x (one_digit (field 1 l)) (one_digit (field 2 l)) _ line.0 in
     let shape = family-read table_word 3 l d.family said.0 in
     let three = list-each (parts 9 l).others 3 shape.1 in
     record {

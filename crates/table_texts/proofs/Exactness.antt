@@ -4,15 +4,12 @@ use mathlib.Core.List.{List, [], ◌∷◌, ◌++◌, append_assoc}
 use mathlib.Core.Logic.{inl, inr, ◌↔◌}
 use mathlib.Core.Path.{◌≡◌, sym, ap, ap₂, refl, subst, ◌∙◌}
 use Prim.Native.Nat.{ℕ, ◌^◌, ◌≤◌, ◌<◌}
+use Rattle.std.specs.Prelude.{Option, Some, None, Result, Ok, Err}
+use Rattle.numbers.specs.declared.refusals.Refused.{Refused}
 use Rattle.numbers.specs.Bytes.{at}
 use Rattle.listings.specs.Parts.{parts, bytes}
 use Rattle.listings.specs.Listing.{tabbed, line, decimal}
 use Rattle.listings.proofs.Parts.{separated, parts-joined}
-use Rattle.table_texts.specs.declared.first.KindRead.TheVariants as kind
-use Rattle.table_texts.specs.declared.first.FirstLine.TheVariants as first
-use Rattle.table_texts.specs.declared.first.FirstLine.{FirstLine}
-use Rattle.table_texts.specs.declared.read.ReadAnswer.TheVariants as answer
-use Rattle.table_texts.specs.declared.read.ReadAnswer.{ReadAnswer}
 use Rattle.table_texts.specs.declared.sizes.Design.{Design}
 use Rattle.table_texts.specs.First.{kind_of, table_word, first_line}
 use Rattle.table_texts.specs.Design.{design_refusal}
@@ -26,28 +23,28 @@ use Rattle.table_texts.proofs.Points.{points-read}
 
 -- ---- the first line, and the text
 
-first-judged : (x : FirstLine) (d : Design) → judged_first x ≡ answer.Given d → x ≡ first.Table d
+first-judged : (x : Option Design) (d : Design) → judged_first x ≡ Ok d → x ≡ Some d
 unfolding judged_first
-first-judged first.Wrong d e = absurd (refused-given e)
-first-judged (first.Table y) d e = ap first.Table (design-given (design_refusal y) y d e).1
+first-judged None d e = absurd (refused-given e)
+first-judged (Some y) d e = ap Some (design-given (design_refusal y) y d e).1
 
 -- a text that begins with the first line of the design d gives this design, where it is accepted
-pub first-given : (k : List ℕ) (d : Design) (rest : List ℕ) (y : Design) (t : List ℕ) → d.n < 10 → d.m < 10 → kind_of d.n k ≡ kind.Is d.kind
+pub first-given : (k : List ℕ) (d : Design) (rest : List ℕ) (y : Design) (t : List ℕ) → d.n < 10 → d.m < 10 → kind_of d.n k ≡ Some d.kind
     → reading (design_line d k ++ rest) ≡ given y t → d ≡ y
-first-given k d rest y t hn hm e given-y = go (judged_first (first.Table d)) refl (sym (first_read k d rest hn hm e) ∙ given-y) where
-  go : (x : ReadAnswer) → judged_first (first.Table d) ≡ x
+first-given k d rest y t hn hm e given-y = go (judged_first (Some d)) refl (sym (first_read k d rest hn hm e) ∙ given-y) where
+  go : (x : Result Design Refused) → judged_first (Some d) ≡ x
       → opened x (from_second (parts 10 rest).first (parts 10 rest).others) ≡ given y t
       → d ≡ y
-  go (answer.Given z) says f =
-      let same : first.Table d ≡ first.Table z = first-judged (first.Table d) z says in
+  go (Ok z) says f =
+      let same : Some d ≡ Some z = first-judged (Some d) z says in
       let judged : d ≡ z = cc in
       judged ∙ (with-given z y _ t f).0
-  go (answer.Refused number at) says f = absurd (no-refusal f)
+  go (Err e) says f = absurd (no-refusal f)
 
 -- the characters that stand for k, and the text that is written with them
 pub record TextRead (s : List ℕ) (d : Design) (t : List ℕ) : Type 0 where
   pub has_kind_field : List ℕ
-  pub said : kind_of d.n has_kind_field ≡ kind.Is d.kind
+  pub said : kind_of d.n has_kind_field ≡ Some d.kind
   pub characters : s ≡ text_with has_kind_field d t
 
 text-joined : (k : List ℕ) (d : Design) (t l s : List ℕ) → l ≡ table_word d.family ++ tabbed (decimal d.n ∷ decimal d.m ∷ k ∷ [])
@@ -64,10 +61,10 @@ all_read : (l : List ℕ) (ls : List (List ℕ)) (d : Design) (t : List ℕ) →
 unfolding all_lines separated
 all_read l [] d t e = absurd (no-refusal e)
 all_read l (l' ∷ ls) d t e = judged (judged_first (first_line l)) refl e where
-  judged : (x : ReadAnswer) → judged_first (first_line l) ≡ x
+  judged : (x : Result Design Refused) → judged_first (first_line l) ≡ x
       → opened x (from_second l' ls) ≡ given d t
       → TextRead (l ++ separated 10 (l' ∷ ls)) d t
-  judged (answer.Given y) says f =
+  judged (Ok y) says f =
       let few : y.n ≤ 8 = (first-sized (first_line l) y says).inputs.1 in
       let line1 = design-read l y (first-judged (first_line l) y says) in
       let found = with-given y d _ t f in
@@ -78,7 +75,7 @@ all_read l (l' ∷ ls) d t e = judged (judged_first (first_line l)) refl e where
         said = line1.said;
         characters = text-joined line1.has_kind_field y t l (l' ++ separated 10 ls) line1.characters points;
       })
-  judged (answer.Refused number at) says f = absurd (no-refusal f)
+  judged (Err e) says f = absurd (no-refusal f)
 
 pub text-read : (s : List ℕ) (d : Design) (t : List ℕ) → reading s ≡ given d t → TextRead s d t
 unfolding reading

@@ -6,6 +6,9 @@ use Prim.Native.Nat.{ℕ, suc, ◌^◌, ◌≤◌, ◌<◌}
 use native.Mathlib.Decide.{dec_lt}
 use native.Mathlib.Omega.{arith}
 use lib.ListN.{length, drop, length-append}
+use Rattle.std.specs.Prelude.{Option, Some, None, Err}
+use Rattle.numbers.specs.declared.refusals.Refusal.{Refusal}
+use Rattle.numbers.specs.declared.refusals.Refusal.TheVariants.{BrokenLine, InputCount, OutputCount, MixedCount, PointOrder, TextEnd}
 use Rattle.numbers.specs.Refusals.{table_refusal, sizes_refusal}
 use Rattle.numbers.proofs.Shifts.{points-le}
 use Rattle.numbers.proofs.refusals.Judging.{table-accepted, both-fail, table-two, table-three}
@@ -25,9 +28,6 @@ use Rattle.lines.specs.FirstBad.{line_after, Above, end_line, NoEnd, OnLine}
 use Rattle.lines.proofs.LineKinds.{line-ended}
 use Rattle.lines.proofs.RowLines.{table-kind}
 use Rattle.lines.proofs.FirstBad.{line-next, first-split, first-whole, unfinished-some, begun-refused, place-refused, followed-refused}
-use Rattle.table_texts.specs.declared.first.KindRead.TheVariants as kind
-use Rattle.table_texts.specs.declared.first.FirstLine.{FirstLine}
-use Rattle.table_texts.specs.declared.first.FirstLine.TheVariants as first
 use Rattle.table_texts.specs.declared.sizes.Design.{Design}
 use Rattle.table_texts.specs.Design.{kind_refusal, design_refusal, KindSized, KindFor}
 use Rattle.table_texts.specs.First.{kind_of, table_word, first_line}
@@ -39,17 +39,17 @@ use Rattle.table_texts.proofs.DesignLine.{kind-dash, kind-written, dash-only, ki
 
 -- ---- the field k
 
-pub kind-says : (n : ℕ) (x : Kind) (f : List ℕ) → KindSays n x f → kind_of n f ≡ kind.Is x
+pub kind-says : (n : ℕ) (x : Kind) (f : List ℕ) → KindSays n x f → kind_of n f ≡ Some x
 kind-says n x f (l, inl h) = ap (kind_of n) h ∙ kind-written n x l
-kind-says n x f (l, inr h) = ap (kind_of n) h.1 ∙ kind-dash n ∙ ap kind.Is (sym (dash-only n x l h.0))
+kind-says n x f (l, inr h) = ap (kind_of n) h.1 ∙ kind-dash n ∙ ap Some (sym (dash-only n x l h.0))
 
-said-kind : (n : ℕ) (x : Kind) (f : List ℕ) → kind_of n f ≡ kind.Is x → KindSays n x f
+said-kind : (n : ℕ) (x : Kind) (f : List ℕ) → kind_of n f ≡ Some x → KindSays n x f
 said-kind n x f e = (kind-digit n f x e, kind-read n f x e)
 
 -- ---- the first line
 
 -- a text whose first part says a design, and has byte 10 after it
-pub line-said : (s : List ℕ) → length (parts 10 s).first < length s → (d : Design) → first_line (parts 10 s).first ≡ first.Table d → TableLine s
+pub line-said : (s : List ℕ) → length (parts 10 s).first < length s → (d : Design) → first_line (parts 10 s).first ≡ Some d → TableLine s
 unfolding design_line
 line-said s h d says =
     let line1 = design-read (parts 10 s).first d says in
@@ -70,9 +70,9 @@ no-first s none = go (dec_lt (length (parts 10 s).first) (length s)) where
   l : List ℕ
   l = (parts 10 s).first
 
-  by-line : length l < length s → (x : FirstLine) → first_line l ≡ x → reading s ≡ refused (unfinished s) 1
-  by-line h first.Wrong says = ap (all_lines l) (others-more 10 s h) ∙ rw (says, unfinished-some s l h)
-  by-line h (first.Table d) says = absurd (none (line-said s h d says))
+  by-line : length l < length s → (x : Option Design) → first_line l ≡ x → reading s ≡ refused (unfinished s) 1
+  by-line h None says = ap (all_lines l) (others-more 10 s h) ∙ rw (says, unfinished-some s l h)
+  by-line h (Some d) says = absurd (none (line-said s h d says))
 
   go : Dec (length l < length s) → reading s ≡ refused (unfinished s) 1
   go (yes h) = by-line h (first_line l) refl
@@ -81,28 +81,28 @@ no-first s none = go (dec_lt (length (parts 10 s).first) (length s)) where
       ap (all_lines l) whole.0 ∙ ap (λ (x : List ℕ). refused (unfinished x) 1) whole.1
 
 -- the refusal of the design that a first line says
-line_refused : (s : List ℕ) (g : TableLine s) (x : ℕ) → design_refusal g.design ≡ suc x → reading s ≡ refused (suc x) 1
+line_refused : (s : List ℕ) (g : TableLine s) (why : Refusal) → design_refusal g.design ≡ Err why → reading s ≡ refused why 1
 unfolding judged_first
-line_refused s g x e =
+line_refused s g why e =
     ap reading g.characters
     ∙ first_read g.has_kind_field g.design g.rest g.n g.m (kind-says g.design.n g.design.kind g.has_kind_field g.says)
     ∙ rw e
 
 -- ---- the order in line 1
 
-kind-one : (family : Family) (n m : ℕ) (x : Kind) → (KindFor family x → ⊥) → kind_refusal family n m x ≡ 1
+kind-one : (family : Family) (n m : ℕ) (x : Kind) → (KindFor family x → ⊥) → kind_refusal family n m x ≡ Err BrokenLine
 kind-one family n m (Mixed C k) none = absurd (none tt)
 kind-one One n m Kronecker none = absurd (none tt)
 kind-one Two n m Kronecker none = refl
 
 -- the refusal of n and m counts before that of k
-kind-table : (family : Family) (n m : ℕ) (x : Kind) (number : ℕ) → KindFor family x → table_refusal n m ≡ suc number → kind_refusal family n m x ≡ suc number
+kind-table : (family : Family) (n m : ℕ) (x : Kind) (why : Refusal) → KindFor family x → table_refusal n m ≡ Err why → kind_refusal family n m x ≡ Err why
 unfolding sizes_refusal
-kind-table family n m (Mixed C k) number h e = rw e
-kind-table One n m Kronecker number h e = e
-kind-table Two n m Kronecker number h e = absurd h
+kind-table family n m (Mixed C k) why h e = rw e
+kind-table One n m Kronecker why h e = e
+kind-table Two n m Kronecker why h e = absurd h
 
-kind-four : (family : Family) (n m : ℕ) (x : Kind) → (1 ≤ n) × (n ≤ 8) → (1 ≤ m) × (m ≤ 8) → (KindSized n x → ⊥) → kind_refusal family n m x ≡ 4
+kind-four : (family : Family) (n m : ℕ) (x : Kind) → (1 ≤ n) × (n ≤ 8) → (1 ≤ m) × (m ≤ 8) → (KindSized n x → ⊥) → kind_refusal family n m x ≡ Err MixedCount
 unfolding sizes_refusal
 kind-four family n m (Mixed C k) hn hm none = rw (table-accepted n m (record { inputs = hn; outputs = hm }), both-fail k (most_mixed C) k n none)
 kind-four family n m Kronecker hn hm none = absurd (none tt)
@@ -122,7 +122,7 @@ module _ (s : List ℕ) (g : PointsPass s) where
   low : 2 ^ g.design.n ≤ 256
   low = points-le g.design.n g.sized.inputs.1
 
-  says-kind : kind_of g.design.n g.has_kind_field ≡ kind.Is g.design.kind
+  says-kind : kind_of g.design.n g.has_kind_field ≡ Some g.design.kind
   says-kind = kind-says g.design.n g.design.kind g.has_kind_field g.says
 
   second : line_after (design_line g.design g.has_kind_field) ≡ 2
@@ -140,14 +140,14 @@ module _ (s : List ℕ) (g : PointsPass s) where
       ∙ rw (design-judged d g.sized)
       (ap (λ (i : ℕ). with_design d (rows_from (table_grammar d.n d.m) i (points ++ r))) (sym second))
 
-  refused-at : (r : List ℕ) (x l : ℕ) → g.rest ≡ r → rows_from (table_grammar d.n d.m) (line_after first-line) (points ++ r) ≡ later.refused x l → reading s ≡ refused x l
+  refused-at : (r : List ℕ) (x : Refusal) (l : ℕ) → g.rest ≡ r → rows_from (table_grammar d.n d.m) (line_after first-line) (points ++ r) ≡ later.refused x l → reading s ≡ refused x l
   unfolding with_design
   refused-at r x l er e = from_second_lem r er ∙ ap (with_design d) e
 
   good : (p : ℕ) → p < 2 ^ g.design.n → (g.f p ≡ 0 → ⊥) → OnLine g.design.m p (g.f p)
   good p h some = record { digits = omega (arith, low); below = g.outputs p h; some = some }
 
-  at-line : (x : ℕ) → refused x (line_after (first-line ++ points)) ≡ refused x (line_after g.before)
+  at-line : (x : Refusal) → refused x (line_after (first-line ++ points)) ≡ refused x (line_after g.before)
   at-line x = ap (λ (b : List ℕ). refused x (line_after b)) (sym g.lines)
 
   abbrev fields : ℕ → ℕ → List (List ℕ)
@@ -162,30 +162,30 @@ module _ (s : List ℕ) (g : PointsPass s) where
       ∙ at-line (unfinished g.rest)
 
   misplaced : (p o : ℕ) (more : List ℕ) → OnLine d.m p o → g.rest ≡ point_line d.m p o ++ more → (p < 2 ^ d.n → Above (2 ^ d.n) g.f p → ⊥)
-      → reading s ≡ refused 5 (line_after g.before)
+      → reading s ≡ refused PointOrder (line_after g.before)
   unfolding point_line
   misplaced p o more value er none =
-      refused-at (point_line d.m p o ++ more) 5 (line_after (first-line ++ points)) er
+      refused-at (point_line d.m p o ++ more) PointOrder (line_after (first-line ++ points)) er
       (place-refused d.n (row_line (table_grammar d.n d.m)) (bytes "on") fields (OnLine d.m) (table-kind d.n d.m) low first-line g.f good p o more
       value none)
-      ∙ at-line 5
+      ∙ at-line PointOrder
 
-  followed : (b : ℕ) (more : List ℕ) → g.rest ≡ end_line ++ b ∷ more → reading s ≡ refused 6 (line_after (g.before ++ end_line))
+  followed : (b : ℕ) (more : List ℕ) → g.rest ≡ end_line ++ b ∷ more → reading s ≡ refused TextEnd (line_after (g.before ++ end_line))
   unfolding point_line
   followed b more er =
-      refused-at (end_line ++ b ∷ more) 6 (line_after (first-line ++ points ++ end_line)) er
+      refused-at (end_line ++ b ∷ more) TextEnd (line_after (first-line ++ points ++ end_line)) er
       (followed-refused d.n (row_line (table_grammar d.n d.m)) (bytes "on") fields (OnLine d.m) (table-kind d.n d.m) low first-line g.f good b more)
-      ∙ ap (λ (b : List ℕ). refused 6 (line_after (b ++ end_line))) (sym g.lines)
+      ∙ ap (λ (b : List ℕ). refused TextEnd (line_after (b ++ end_line))) (sym g.lines)
 
 -- ---- all of them
 
 -- what is refused where there is a byte, and where there is none
-some_one : (s : List ℕ) → (s ≡ [] → ⊥) → unfinished s ≡ 1
+some_one : (s : List ℕ) → (s ≡ [] → ⊥) → unfinished s ≡ BrokenLine
 unfolding unfinished
 some_one [] h = absurd (h refl)
 some_one (b ∷ s) h = refl
 
-none-six : (s : List ℕ) → s ≡ [] → unfinished s ≡ 6
+none-six : (s : List ℕ) → s ≡ [] → unfinished s ≡ TextEnd
 unfolding unfinished
 none-six s e = rw e
 
@@ -202,23 +202,23 @@ no-on : (m : ℕ) (s : List ℕ) → s ≡ [] → NoOn m s
 unfolding point_line
 no-on m s e p o more value h = no_line (bytes "on") s more (decimal p ∷ output_bytes m o ∷ []) e h
 
-pub text-refusals : (s : List ℕ) (P : ℕ → ℕ → Type 0) → ((x l : ℕ) → reading s ≡ refused x l → P x l) → TextRefusals s P
+pub text-refusals : (s : List ℕ) (P : Refusal → ℕ → Type 0) → ((why : Refusal) (l : ℕ) → reading s ≡ refused why l → P why l) → TextRefusals s P
 unfolding design_refusal
 text-refusals s P told =
     record {
-      none = λ e. told 6 1 (no-first s (no_table s e) ∙ ap (λ (x : ℕ). refused x 1) (none-six s e));
-      first = λ some none. told 1 1 (no-first s none ∙ ap (λ (x : ℕ). refused x 1) (some_one s some));
-      kind = λ g none. told 1 1 (line_refused s g 0 (kind-one g.design.family g.design.n g.design.m g.design.kind none));
+      none = λ e. told TextEnd 1 (no-first s (no_table s e) ∙ ap (λ (x : Refusal). refused x 1) (none-six s e));
+      first = λ some none. told BrokenLine 1 (no-first s none ∙ ap (λ (x : Refusal). refused x 1) (some_one s some));
+      kind = λ g none. told BrokenLine 1 (line_refused s g BrokenLine (kind-one g.design.family g.design.n g.design.m g.design.kind none));
       inputs = λ g h none.
-          told 2 1
-          (line_refused s g 1 (kind-table g.design.family g.design.n g.design.m g.design.kind 1 h (table-two g.design.n g.design.m none)));
+          told InputCount 1
+          (line_refused s g InputCount (kind-table g.design.family g.design.n g.design.m g.design.kind InputCount h (table-two g.design.n g.design.m none)));
       outputs = λ g h hn none.
-          told 3 1
-          (line_refused s g 2 (kind-table g.design.family g.design.n g.design.m g.design.kind 2 h (table-three g.design.n g.design.m hn none)));
-      mixed = λ g hn hm none. told 4 1 (line_refused s g 3 (kind-four g.design.family g.design.n g.design.m g.design.kind hn hm none));
-      line = λ g some none unended. told 1 _ (begun s g none unended ∙ ap (λ (x : ℕ). refused x (line_after g.before)) (some_one g.rest some));
-      point = λ g p o more value e none. told 5 _ (misplaced s g p o more value e none);
+          told OutputCount 1
+          (line_refused s g OutputCount (kind-table g.design.family g.design.n g.design.m g.design.kind OutputCount h (table-three g.design.n g.design.m hn none)));
+      mixed = λ g hn hm none. told MixedCount 1 (line_refused s g MixedCount (kind-four g.design.family g.design.n g.design.m g.design.kind hn hm none));
+      line = λ g some none unended. told BrokenLine _ (begun s g none unended ∙ ap (λ (x : Refusal). refused x (line_after g.before)) (some_one g.rest some));
+      point = λ g p o more value e none. told PointOrder _ (misplaced s g p o more value e none);
       stops = λ g e.
-          told 6 _ (begun s g (no-on g.design.m g.rest e) (λ more h. no_line (bytes "end") g.rest more [] e h) ∙ ap (λ (x : ℕ). refused x (line_after g.before)) (none-six g.rest e));
-      follows = λ g b more e. told 6 _ (followed s g b more e);
+          told TextEnd _ (begun s g (no-on g.design.m g.rest e) (λ more h. no_line (bytes "end") g.rest more [] e h) ∙ ap (λ (x : Refusal). refused x (line_after g.before)) (none-six g.rest e));
+      follows = λ g b more e. told TextEnd _ (followed s g b more e);
     }

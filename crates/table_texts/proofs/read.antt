@@ -1,4 +1,3 @@
-pub mod Judged
 pub mod Steps
 pub mod Accepted
 pub mod Words

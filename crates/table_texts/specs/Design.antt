@@ -1,8 +1,9 @@
 -- The design that a table text is for: n inputs, m outputs, the kind of k and the family. Document 02, W-202: "A k field of `K` selects it; the
 -- reading call returns the kind of k.", W-203: "The reading call returns the family too", and W-207: "A k field of `f0`, `f1` or `f2` selects the free
 -- class".
-use Rattle.std.specs.Prelude.{ℕ, ◌≤◌}
-use Rattle.numbers.specs.Refusals.{table_refusal, sizes_refusal}
+use Rattle.std.specs.Prelude.{ℕ, ◌≤◌, Err}
+use Rattle.numbers.specs.declared.refusals.Refusal.TheVariants.{BrokenLine}
+use Rattle.numbers.specs.Refusals.{Judgement, table_refusal, sizes_refusal}
 use Rattle.expansions.specs.declared.families.Family.{Family}
 use Rattle.expansions.specs.declared.families.Family.TheVariants.{One, Two}
 use Rattle.expansions.specs.declared.kinds.Kind.{Kind}
@@ -21,14 +22,13 @@ kronecker_design n m = record { n = n; m = m; kind = Kronecker; family = One }
 
 -- the refusal of n and m with each kind: a number k has the limit of its class, "`f` with a digit above 2 or above n is refusal 4", and "`K` is for
 -- `table` only; with `table2` it is refusal 1"
-abbrev pub kind_refusal : Family → ℕ → ℕ → Kind → ℕ
+abbrev pub kind_refusal : Family → ℕ → ℕ → Kind → Judgement
 kind_refusal family n m (Mixed C k) = sizes_refusal n m (most_mixed C) k
 kind_refusal One n m Kronecker = table_refusal n m
-kind_refusal Two n m Kronecker = 1
+kind_refusal Two n m Kronecker = Err BrokenLine
 
--- "2. n is not 1 to 8. 3. m is not 1 to 8. 4. k is above 3 or above n.", before these 1 for `K` with `table2`, and 0 where there is no refusal: "In line 1
--- the order is 1, 2, 3, 4."
-unfoldable pub design_refusal : Design → ℕ
+-- "2. n is not 1 to 8. 3. m is not 1 to 8. 4. k is above 3 or above n.", before these 1 for `K` with `table2`: "In line 1 the order is 1, 2, 3, 4."
+unfoldable pub design_refusal : Design → Judgement
 design_refusal d = kind_refusal d.family d.n d.m d.kind
 
 -- "k mixed inputs (0 to 3, at most n)", and in the free class 0 to 2, where the kind of k is a number

@@ -6,64 +6,44 @@ ghost use Rattle.table_texts.specs.First.{dash_kind, kind_of, table_line, first_
 use crate::sizes::Design;
 use expansions::kinds::{Class, Kind};
 use fields::heading::{Heading, heading_of};
-use fields::values::{MixedRead, mixed_of, one_digit};
+use fields::values::{mixed_of, one_digit};
 use fields::words::{family_of, field, same};
 
-// What a field k says.
-#[derive(Clone, Copy)]
-pub enum KindRead {
-    Is(Kind),
-    Wrong,
-}
-
-// What a first line says.
-#[derive(Clone, Copy)]
-pub enum FirstLine {
-    Table(Design),
-    Wrong,
-}
-
 // What `-` as the field k means for n inputs: `f2`, or `f1` where n is 1. No other function says what it means.
+#[tactic(auto, unfolding(crate::specs::First::dash_kind))]
 fn dash_kind(n: usize) -> Kind
     ensures { result ≡ dash_kind n }
 {
-    if n == 1 {
-        return Kind::Mixed(Class::Free, 1);
-    }
-    Kind::Mixed(Class::Free, 2)
+    Kind::Mixed(Class::Free, if n == 1 { 1 } else { 2 })
 }
 
 // The field k of a table of n inputs: a digit, `f` and a digit for the free class, `-`, or `K` for the Kronecker expansions.
-fn kind_of(n: usize, field: &[u8]) -> KindRead
+#[tactic(auto, unfolding(crate::specs::First::kind_of, listings::specs::Parts::bytes))]
+fn kind_of(n: usize, field: &[u8]) -> Option<Kind>
     ensures { result ≡ kind_of n field.now }
 {
     if same(field, b"-") {
-        return KindRead::Is(dash_kind(n));
+        return Some(dash_kind(n));
     }
     if same(field, b"K") {
-        return KindRead::Is(Kind::Kronecker);
+        return Some(Kind::Kronecker);
     }
-    match mixed_of(field) {
-        MixedRead::Is { class, k } => KindRead::Is(Kind::Mixed(class, k)),
-        MixedRead::Wrong => KindRead::Wrong,
-    }
+    let mixed = mixed_of(field)?;
+    Some(Kind::Mixed(mixed.class, mixed.k))
 }
 
-// The family, n and m with the kind of k, which `field` says, where each is read.
-fn table_line(heading: Heading, field: &[u8]) -> FirstLine
+// The design of a heading with the kind of k, which `field` says, where each is read.
+fn table_line(heading: Option<Heading>, field: &[u8]) -> Option<Design>
     ensures { result ≡ table_line heading field.now }
 {
-    let Heading::Is { family, n, m } = heading else {
-        return FirstLine::Wrong;
-    };
-    let KindRead::Is(kind) = kind_of(n, field) else {
-        return FirstLine::Wrong;
-    };
-    FirstLine::Table(Design { n, m, kind, family })
+    let Heading { family, n, m } = heading?;
+    let kind = kind_of(n, field)?;
+    Some(Design { n, m, kind, family })
 }
 
 // The first line: `table` for family one or `table2` for family two, n, m, k.
-pub fn first_line(line: &[u8]) -> FirstLine
+#[tactic(auto, unfolding(crate::specs::First::first_line, crate::specs::First::table_word, listings::specs::Parts::bytes))]
+pub fn first_line(line: &[u8]) -> Option<Design>
     ensures { result ≡ first_line line.now }
 {
     let heading = heading_of(

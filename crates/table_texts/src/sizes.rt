@@ -1,13 +1,13 @@
-// The sizes of a design: what the first line of a table text says, and the refusal of it.
+// The sizes of a design: what the first line of a table text says, and the judging of it.
 ghost use Rattle.std.specs.Prelude.{◌≡◌};
 ghost use Rattle.table_texts.specs.Design.{design_refusal};
 
 use expansions::families::Family;
 use expansions::kinds::{Class, Kind, most_mixed};
-use numbers::refusals::{judge_sizes, judge_table};
+use numbers::refusals::{Refusal, judge_sizes, judge_table};
 
 // The inputs n, the outputs m, the class with its mixed inputs k, for a part of the family.
-#[derive(Clone, Copy)]
+#[derive(Clone, Copy, Debug, PartialEq, Eq)]
 pub struct Sizes {
     pub n: usize,
     pub m: usize,
@@ -17,7 +17,7 @@ pub struct Sizes {
 }
 
 // What the first line of a table text says: the inputs n, the outputs m, the kind of k and the family.
-#[derive(Clone, Copy)]
+#[derive(Clone, Copy, Debug, PartialEq, Eq)]
 pub struct Design {
     pub n: usize,
     pub m: usize,
@@ -25,18 +25,14 @@ pub struct Design {
     pub family: Family,
 }
 
-// The refusal of a design: 1 for `K` with family two, then that of its table, then 4 where k is a number above the most of its class or above n; and 0
-// where there is none.
-pub fn judge_design(design: Design) -> usize
+// Judges a design: `K` is for family one, with the sizes of its table; a number k is judged after these by the most of its class and by n.
+#[tactic(auto, unfolding(crate::specs::Design::design_refusal))]
+pub fn judge_design(design: Design) -> Result<(), Refusal>
     ensures { result ≡ design_refusal design }
 {
-    let kind = design.kind;
-    let family = design.family;
-    match kind {
-        Kind::Mixed(class, k) => judge_sizes(design.n, design.m, most_mixed(class), k),
-        Kind::Kronecker => match family {
-            Family::One => judge_table(design.n, design.m),
-            Family::Two => 1,
-        },
+    match (design.kind, design.family) {
+        (Kind::Mixed(class, k), _) => judge_sizes(design.n, design.m, most_mixed(class), k),
+        (Kind::Kronecker, Family::One) => judge_table(design.n, design.m),
+        (Kind::Kronecker, Family::Two) => Err(Refusal::BrokenLine),
     }
 }

@@ -2,6 +2,7 @@
 -- the listing, or the line `refused`, number, line."
 use Rattle.std.specs.Prelude.{List, [], ◌∷◌, ◌++◌, ◌≡◌, ℕ, ◌-◌, ◌≤◌, length, take, replicate}
 use Rattle.numbers.specs.Bytes.{at}
+use Rattle.numbers.specs.Refusals.{number_of}
 use Rattle.table_texts.specs.declared.sizes.Design.{Design}
 use Rattle.table_texts.specs.TableTexts.{Means}
 use Rattle.table_texts.specs.Refusals.{TextRefusals}
@@ -23,6 +24,6 @@ pub record Print (input held : List ℕ) (count : ℕ) : Type 0 where
   pub meaning : (d : Design) (table : List ℕ) → Means (judged input) d table
       → IsListing d.n d.family d.kind (at table) (take count held)
   -- "the first bad line counts": "the line `refused`, number, line" of what the text breaks, whatever follows; its numbers, read in base ten, are these
-  pub refusals : TextRefusals (judged input) (λ number l. (take count held ≡ refused_line number l) × (first_numbers (take count held) ≡ number ∷ l ∷ []))
+  pub refusals : TextRefusals (judged input) (λ why l. (take count held ≡ refused_line why l) × (first_numbers (take count held) ≡ number_of why ∷ l ∷ []))
   -- "(every text that can be accepted is shorter)": where the whole input is a text that is accepted, it is what is judged
   pub whole : (d : Design) (table : List ℕ) → Means input d table → judged input ≡ input

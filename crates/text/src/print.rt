@@ -5,16 +5,13 @@ ghost use Rattle.writing.specs.Put.{Put};
 ghost use Rattle.text.specs.Print.{Print};
 ghost use Rattle.text.specs.Judged.{judged, refused_line};
 
-use crate::compile::{Compiled, compile};
-use writing::line::write_line;
-use writing::writer::Writer;
+use crate::compile::compile;
+use numbers::refusals::Refused;
+use writing::line::write_refused;
+use writing::written::Written;
 
-// What is printed: the first `length` of the bytes. The bytes past them are zero.
-#[derive(Clone, Copy)]
-pub struct Printed {
-    pub bytes: [u8; Printed::LONGEST_LISTING],
-    pub length: usize,
-}
+// What is printed for a text. The bytes past it are zero.
+pub struct Printed;
 
 impl Printed {
     // How many bytes of standard input are judged as the whole text. Every text that can be accepted is shorter: `Print.whole`.
@@ -25,36 +22,31 @@ impl Printed {
 }
 
 // How many bytes of the input are judged.
+#[tactic(auto, using(std::proofs::lemmas::List::take_min))]
 pub fn judged_length(input: &[u8]) -> usize
     ensures { (result ≤ length input.now) × (take result input.now ≡ judged input.now) }
 {
-    if input.len() < Printed::INPUT_BYTES {
-        input.len()
-    } else {
-        Printed::INPUT_BYTES
-    }
+    Printed::INPUT_BYTES.min(input.len())
 }
 
 // Writes the line `refused`, number, line into the front of `out`, and gives the line's length.
-fn write_refused(number: usize, line: usize, out: &mut [u8]) -> usize
+#[tactic(auto, unfolding(crate::specs::Judged::refused_line))]
+pub fn write_refusal(refused: Refused, out: &mut [u8]) -> usize
     requires { 18 ≤ length out.old }
-    ensures { Put out.old 0 (refused_line number line) out.new result }
+    ensures { Put out.old 0 (refused_line refused.refusal refused.line) out.new result }
 {
-    let stop = write_line(Writer { at: 0 }, out, b"refused", &[number, line]);
-    stop.at
+    write_refused(refused.refusal.number(), refused.line, out)
 }
 
 // What is printed for the input, of which the first 8,192 bytes are judged as the whole text.
-pub fn print_answer(input: &[u8]) -> Printed
+pub fn print_answer(input: &[u8]) -> Written<{ Printed::LONGEST_LISTING }>
     ensures { Print input.now result.bytes result.length }
 {
     let judged = judged_length(input);
     let mut bytes = [0u8; Printed::LONGEST_LISTING];
-    match compile(&input[..judged], &mut bytes) {
-        Compiled::Written { length } => Printed { bytes, length },
-        Compiled::Refused { number, line } => {
-            let length = write_refused(number, line, &mut bytes);
-            Printed { bytes, length }
-        }
-    }
+    let length = match compile(&input[..judged], &mut bytes) {
+        Ok(length) => length,
+        Err(refused) => write_refusal(refused, &mut bytes),
+    };
+    Written { bytes, length }
 }

@@ -1,13 +1,14 @@
 -- Bytes written into a buffer. One write after another is one write of both (`put_then`), and a loop that writes the bytes of a list one
 -- by one writes the list (`written_all`).
-use mathlib.Core.List.{List, [], ◌∷◌, ◌++◌}
+use mathlib.Core.List.{List, [], ◌∷◌, ◌++◌, append_assoc}
 use mathlib.Core.Path.{◌≡◌, refl, ap, ◌∙◌}
-use Prim.Native.Nat.{ℕ, suc, ◌+◌, ◌≤◌, ◌<◌}
+use Prim.Native.Nat.{ℕ, suc, ◌+◌, ◌-◌, ◌≤◌, ◌<◌}
 use native.Mathlib.Nat.{add-zero}
 use native.Mathlib.Numerals.{add-one}
 use native.Mathlib.Omega.{arith}
 use lib.ListN.{length, get_or, take, drop, set, length-append, length-set}
-use lib.Seq.{sets, sets-eq, length-sets, take-suc, take_all, length-take-le}
+use borrow.Rule.Slice.PartMut.{put_mid}
+use lib.Seq.{drop-drop, sets, sets-eq, length-sets, take-suc, take_all, length-take-le}
 use Rattle.writing.specs.Put.{Put}
 
 -- ---- one write after another
@@ -36,6 +37,16 @@ pub put_front : {o p v : List ℕ} {b : ℕ} → length v ≤ length o → Put o
 put_front {o} {p} {v} {b} h i =
     let e : 0 + length v ≡ length v = omega arith in
     i.holds ∙ sets-eq v o 0 (omega arith) ∙ rw e
+
+-- a part of the buffer that is replaced, as by `copy_from_slice`
+pub put_part : {p : List ℕ} (o : List ℕ) (at : ℕ) (v : List ℕ) → at + length v ≤ length o → p ≡ v
+    → Put o at v (put_mid at (at + length v - at) o p) (at + length v)
+put_part {p} o at v h e =
+    let k : at + length v - at ≡ length v = omega arith in
+    record {
+      to = refl;
+      holds = rw (k, e, drop-drop (length v) at o, sets-eq v o at h, append_assoc);
+    }
 
 -- ---- byte by byte
 

@@ -2,6 +2,6 @@
 // to write at and gives the place after what it wrote. The main property: the bytes stand there, and every other byte is as it was.
 #![tactic(auto)]
 
-pub mod letters;
 pub mod line;
 pub mod writer;
+pub mod written;

@@ -12,11 +12,9 @@ pub fn digits_of(numbers: &[usize]) -> usize
     requires { length numbers.now ≤ 7 }
     ensures { result ≡ digits_of numbers.now }
 {
-    let mut digits: usize = 0;
-    let mut j: usize = 0;
-    while j < numbers.len() {
-        digits += digit_count(numbers[j]);
-        j += 1;
+    let mut digits = 0;
+    for x in numbers {
+        digits += digit_count(*x);
     }
     digits
 }
@@ -27,10 +25,8 @@ pub fn write_numbers(start: Writer, out: &mut [u8], numbers: &[usize]) -> Writer
     ensures { Put out.old start.at (tabbed (map decimal numbers.now)) out.new result.at }
 {
     let mut place = start;
-    let mut j: usize = 0;
-    while j < numbers.len() {
-        place = place.byte(out, b'\t').number(out, numbers[j]);
-        j += 1;
+    for x in numbers {
+        place = place.byte(out, b'\t').number(out, *x);
     }
     place
 }
@@ -49,6 +45,5 @@ pub fn write_refused(number: usize, place: usize, out: &mut [u8]) -> usize
     requires { 18 ≤ length out.old }
     ensures { Put out.old 0 (line (bytes "refused") (decimal number ∷ decimal place ∷ [])) out.new result }
 {
-    let stop = write_line(Writer { at: 0 }, out, b"refused", &[number, place]);
-    stop.at
+    write_line(Writer::START, out, b"refused", &[number, place]).at
 }

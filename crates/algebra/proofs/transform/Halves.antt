@@ -1,19 +1,19 @@
--- A half step done in place, pair of runs by pair of runs: what the loops of `half_step_bytes` and `half_step_eights` hold.
+-- A half step done in place, pair of runs by pair of runs: what the loop of `half_step_runs` holds.
 use mathlib.Core.Path.{◌≡◌, sym, ap, ap₂, ◌∙◌}
 use mathlib.Core.Bool.{cond}
 use mathlib.Core.List.{List}
 use Prim.Native.Nat.{ℕ, zero, suc, ◌+◌, ◌-◌, ◌*◌, ◌/◌, ◌%◌, ◌^◌, ◌≤◌, ◌<◌}
-use native.Mathlib.Nat.{div-add-mod', pow-suc, add-zero, one-mul, add-mul, mul_assoc, zero-mod, add-mod_right}
+use native.Mathlib.Nat.{div-add-mod', pow-suc, add-zero, one-mul, zero-mul, suc-mul, add-mul, mul_assoc, mul-le-mul_right, zero-mod, add-mod_right, le-div_iff_mul-le}
 use native.Mathlib.Decide.{dec_lt}
 use native.Mathlib.Omega.{arith}
 use lib.Dec.{eqb}
-use lib.Pow.{pow-add, shl_exact}
+use lib.Pow.{pow_pos, pow-add, shl_exact}
 use lib.ListN.{length}
 use lib.Bits.{bit_xor}
 use Rattle.numbers.specs.Bytes.{at, tabulate}
 use Rattle.numbers.proofs.Bytes.{Filled, filled_none, filled-all}
 use Rattle.numbers.proofs.Multiples.{multiple-room, multiple-down}
-use Rattle.algebra.specs.Inner.Steps.{half_step, RunJoined, Apart, ahead, behind}
+use Rattle.algebra.specs.Inner.Steps.{half_step, RunJoined, RunRoom, Apart, ahead, behind}
 use Rattle.algebra.proofs.HalfSteps.{half-lane, half-lowest}
 
 -- ---- the half step at a place of a pair of runs
@@ -33,7 +33,7 @@ pair-half d s base e i g a h l =
         let p : j * 2 ^ suc s ≡ j * 2 * 2 ^ s = ap (λ (y : ℕ). j * y) (pow-suc 2 s) ∙ omega arith in
         omega (arith, add-mul (j * 2) e (2 ^ s))
 
--- ---- the loops
+-- ---- the loop
 
 -- the half step has been done below base, a multiple of the size of two runs; `to` and `from` are where the two runs begin
 pub record HalvedTo (d s size to from base : ℕ) (before after : List ℕ) : Type 0 where
@@ -127,47 +127,40 @@ pub halved-all : (d s size to from base : ℕ) (before after : List ℕ) → len
     → after ≡ tabulate (length before) (half_step d s (at before))
 halved-all d s size to from base before after h f = filled-all _ base before after h f.reached
 
--- ---- in the code's terms
+-- ---- in the code's terms: the loop's numbers count runs of 2 ^ k bytes
 
-shifted : (d s : ℕ) → d < 2 → s < 16 → d * 2 ^ s % 2 ^ 64 ≡ d * 2 ^ s
-shifted d s h l = shl_exact 1 s 64 h (omega arith)
+shifted : (d s k : ℕ) → d < 2 → s < 16 → d * 2 ^ s % 2 ^ 64 * 2 ^ k ≡ d * 2 ^ (s + k)
+shifted d s k h l =
+    ap (λ (x : ℕ). x * 2 ^ k) (shl_exact 1 s 64 h (omega arith)) ∙ mul_assoc d (2 ^ s) (2 ^ k) ∙ ap (λ (x : ℕ). d * x) (sym (pow-add 2 s k))
 
-pub bytes-none : (d s : ℕ) (b : List ℕ) → (d < 2) × (s < 3) × (length b % 2 ^ suc s ≡ 0)
-    → HalvedTo d s (1 * 2 ^ s % 2 ^ 64) (d * 2 ^ s % 2 ^ 64) ((1 - d) * 2 ^ s % 2 ^ 64) 0 b b
-bytes-none d s b (h, l, e) =
-    halved_none d s _ _ _ b h (shifted 1 s (omega arith) (omega arith)) (shifted d s h (omega arith)) (shifted (1 - d) s (omega arith) (omega arith)) e
+pub runs-none : (d e s k : ℕ) (b : List ℕ) → d < 2 → e ≡ 1 - d → s + k < 16 → length b % 2 ^ suc (s + k) ≡ 0
+    → HalvedTo d (s + k) (1 * 2 ^ s % 2 ^ 64 * 2 ^ k) (d * 2 ^ s % 2 ^ 64 * 2 ^ k) (e * 2 ^ s % 2 ^ 64 * 2 ^ k) (0 * 2 ^ k) b b
+runs-none d e s k b h i l w =
+    rw (i, zero-mul (2 ^ k))
+    (halved_none d (s + k) _ _ _ b h (shifted 1 s k (omega arith) (omega arith)) (shifted d s k h (omega arith)) (shifted (1 - d) s k (omega arith) (omega arith)) w)
 
--- eight bytes at a time: the loop's numbers count runs of eight bytes
-times_eight : (d s : ℕ) → d < 2 → s < 13 → d * 2 ^ s % 2 ^ 64 * 8 ≡ d * 2 ^ (s + 3)
-times_eight d s h l = ap (λ (x : ℕ). x * 8) (shifted d s h (omega arith)) ∙ mul_assoc d (2 ^ s) 8 ∙ ap (λ (x : ℕ). d * x) (sym (pow-add 2 s 3))
+module _ (d s k size to from base : ℕ) (before mid : List ℕ) (h : base < length before / 2 ^ k) (f : HalvedTo d s (size * 2 ^ k) (to * 2 ^ k) (from * 2 ^ k) (base * 2 ^ k) before mid) where
+  start : base * 2 ^ k < length mid
+  start = omega (arith, f.reached.long, (le-div_iff_mul-le (pow_pos k)).0 h, suc-mul base (2 ^ k), pow_pos k)
 
-pub eights-none : (d s : ℕ) (b : List ℕ) → (d < 2) × (s < 13) × (length b % 2 ^ (s + 4) ≡ 0)
-    → HalvedTo d (s + 3) (1 * 2 ^ s % 2 ^ 64 * 8) (d * 2 ^ s % 2 ^ 64 * 8) ((1 - d) * 2 ^ s % 2 ^ 64 * 8) (0 * 8) b b
-eights-none d s b (h, l, e) =
-    let four : s + 4 ≡ suc (s + 3) = omega arith in
-    halved_none d (s + 3) _ _ _ b h (times_eight 1 s (omega arith) l) (times_eight d s h l) (times_eight (1 - d) s (omega arith) l) (rw four at e)
+  pub pair-room : PairRoom (size * 2 ^ k) (to * 2 ^ k) (from * 2 ^ k) (base * 2 ^ k) (length mid)
+  pair-room = halved-room d s (size * 2 ^ k) (to * 2 ^ k) (from * 2 ^ k) (base * 2 ^ k) before mid start f
 
-module _ (d s size to from base : ℕ) (before mid : List ℕ) (h : base < length before / 8) (f : HalvedTo d s (size * 8) (to * 8) (from * 8) (base * 8) before mid) where
-  start : base * 8 < length mid
-  start = omega (arith, f.reached.long)
+  pub runs-room : RunRoom ((base + to) * 2 ^ k) ((base + from) * 2 ^ k) (size * 2 ^ k) (length mid)
+  runs-room =
+      let r = pair-room in
+      rw (add-mul base to (2 ^ k), add-mul base from (2 ^ k))
+      (record { taking = omega (arith, r.pair, r.taking); taken = omega (arith, r.pair, r.taken); apart = r.apart })
 
-  times : (x : ℕ) → (base + x) * 8 ≡ base * 8 + x * 8
-  times x = omega arith
+  pub runs-more : (after : List ℕ) → RunJoined ((base + to) * 2 ^ k) ((base + from) * 2 ^ k) (size * 2 ^ k) mid after
+      → HalvedTo d s (size * 2 ^ k) (to * 2 ^ k) (from * 2 ^ k) ((base + 2 * size) * 2 ^ k) before after
+  runs-more after r =
+      let n : (base + 2 * size) * 2 ^ k ≡ base * 2 ^ k + size * 2 ^ k + size * 2 ^ k = omega arith in
+      rw n (halved-more d s (size * 2 ^ k) (to * 2 ^ k) (from * 2 ^ k) (base * 2 ^ k) before mid start f after (rw (add-mul base to (2 ^ k), add-mul base from (2 ^ k)) at r))
 
-  pub eights-room : PairRoom (size * 8) (to * 8) (from * 8) (base * 8) (length mid)
-  eights-room = halved-room d s (size * 8) (to * 8) (from * 8) (base * 8) before mid start f
-
-  pub eights-apart : Apart ((base + to) * 8) ((base + from) * 8) (size * 8)
-  eights-apart = rw (times to, times from) eights-room.apart
-
-  pub eights-more : (after : List ℕ) → RunJoined ((base + to) * 8) ((base + from) * 8) (size * 8) mid after
-      → HalvedTo d s (size * 8) (to * 8) (from * 8) ((base + size + size) * 8) before after
-  eights-more after r =
-      let n : (base + size + size) * 8 ≡ base * 8 + size * 8 + size * 8 = omega arith in
-      rw n (halved-more d s (size * 8) (to * 8) (from * 8) (base * 8) before mid start f after (rw (times to, times from) at r))
-
-pub eights-all : (d s size to from base : ℕ) (before after : List ℕ) → length before / 8 ≤ base
-    → HalvedTo d (s + 3) (size * 8) (to * 8) (from * 8) (base * 8) before after → after ≡ tabulate (length before) (half_step d (s + 3) (at before))
-eights-all d s size to from base before after h f =
-    let e : length before % 8 ≡ 0 = multiple-down (suc (s + 3)) 3 (length before) (omega arith) f.whole in
-    halved-all d (s + 3) (size * 8) (to * 8) (from * 8) (base * 8) before after (omega (arith, f.reached.long)) f
+pub runs-all : (d s k size to from base : ℕ) (before after : List ℕ) → length before / 2 ^ k ≤ base
+    → HalvedTo d (s + k) (size * 2 ^ k) (to * 2 ^ k) (from * 2 ^ k) (base * 2 ^ k) before after → after ≡ tabulate (length before) (half_step d (s + k) (at before))
+runs-all d s k size to from base before after h f =
+    let e : length before % 2 ^ k ≡ 0 = multiple-down (suc (s + k)) k (length before) (omega arith) f.whole in
+    halved-all d (s + k) (size * 2 ^ k) (to * 2 ^ k) (from * 2 ^ k) (base * 2 ^ k) before after
+    (omega (arith, f.reached.long, div-add-mod' (length before) (2 ^ k), mul-le-mul_right (2 ^ k) h)) f

@@ -1,12 +1,10 @@
 -- Steps for one input after the other, in place: what the loops of `join_inside` and `turn_inputs` hold.
 use mathlib.Core.Path.{◌≡◌, refl, ap, ◌∙◌}
 use mathlib.Core.List.{List}
-use Prim.Native.Nat.{ℕ, zero, suc, ◌+◌, ◌/◌, ◌%◌, ◌^◌, ◌≤◌, ◌<◌}
+use Prim.Native.Nat.{ℕ, zero, suc, ◌+◌, ◌%◌, ◌^◌, ◌≤◌, ◌<◌}
 use native.Mathlib.Omega.{arith}
 use native.Mathlib.Numerals.{add-one}
-use lib.Bits.{bit_and, and_mask}
 use lib.ListN.{length}
-use Rattle.numbers.specs.Bits.{bit}
 use Rattle.numbers.specs.Bytes.{at, tabulate}
 use Rattle.numbers.proofs.Bytes.{length-tabulate, at-tabulate, is-table, tabulate-ext}
 use Rattle.numbers.proofs.Multiples.{multiple-down}
@@ -52,9 +50,6 @@ module _ (step : ℕ → (ℕ → ℕ) → ℕ → ℕ) (low n : ℕ) (before : 
         reached = e ∙ rw (stepped-long s mid f, add-one s) (tabulate-ext (length before) _ _ (below (at mid) (all_steps step s (at before)) same));
       }
 
-  pub stepped-all : (s : ℕ) (after : List ℕ) → n ≤ s → SteppedTo step low n s before after → after ≡ tabulate (length before) (all_steps step n (at before))
-  stepped-all s after h f = let e : s ≡ n = omega (arith, f.within) in rw e at f.reached
-
 -- ---- by a digit
 
 pub turned_none : (d s : ℕ) (b : List ℕ) → d ≡ 0 → b ≡ tabulate (length b) (turned_where d s (at b))
@@ -65,6 +60,3 @@ pub turned-one : (d s : ℕ) (b c : List ℕ) → (d ≡ 0 → ⊥) → c ≡ ta
 unfolding turned_where
 turned-one zero s b c h e = absurd (h refl)
 turned-one (suc d) s b c h e = e
-
-pub turned-digit : (x s k : ℕ) (b c : List ℕ) → c ≡ tabulate (length b) (turned_where (bit_and (x / 2 ^ s) 1) k (at b)) → c ≡ tabulate (length b) (turned_where (bit s x) k (at b))
-turned-digit x s k b c e = e ∙ ap (λ (d : ℕ). tabulate (length b) (turned_where d k (at b))) (and_mask (x / 2 ^ s) 1)

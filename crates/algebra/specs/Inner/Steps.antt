@@ -30,3 +30,9 @@ pub record RunJoined (to from N : ℕ) (before after : List ℕ) : Type 0 where
 pub data Apart (a b N : ℕ) : Type 0 where
   ahead : a + N ≤ b → Apart a b N
   behind : b + N ≤ a → Apart a b N
+
+-- runs of N bytes from `to` and from `from` on lie within `long` bytes and have no byte in common
+pub record RunRoom (to from N long : ℕ) : Type 0 where
+  pub taking : to + N ≤ long
+  pub taken : from + N ≤ long
+  pub apart : Apart to from N

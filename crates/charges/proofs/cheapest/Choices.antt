@@ -1,18 +1,18 @@
--- The loops over the bytes of a word of small sums, and of a word of masks beside it. They hold the first least of the sums tried (`SumsTried`) and what
--- is left of each word (`Shifted`); at the end that is the first least of all (`tried-all`). Of two words it is the lesser of their two (`lesser-high`,
--- `lesser-low`), and by it the cheapest choice of a block is had (`cheapest-masked`, `cheapest-sum`).
+-- The loop over the bytes of a word of small sums, and of a word of masks beside it. It holds the first least of the sums tried and what is left of each
+-- word (`Tried`); at the end that is the first least of all (`tried-all`). Of two words it is the lesser of their two (`lesser-high`, `lesser-low`), and
+-- by it the cheapest choice of a block is had (`cheapest-masked`, `cheapest-sum`).
 use mathlib.Core.Logic.{inl}
 use mathlib.Core.Path.{◌≡◌, refl, sym, ap, ap₂, ◌∙◌, subst}
-use mathlib.Core.Bool.{true}
+use mathlib.Core.Bool.{Bool, true, false}
 use Prim.Native.Nat.{ℕ, suc, ◌+◌, ◌-◌, ◌*◌, ◌/◌, ◌%◌, ◌^◌, ◌≤◌, ◌<◌}
 use native.Mathlib.Nat.{mod-eq_of_lt, zero-add}
+use native.Mathlib.Numerals.{add-one}
 use native.Mathlib.Decide.{dec_lt}
 use native.Mathlib.Omega.{arith}
 use lib.Bits.{bit_and, and_mask}
 use lib.Dec.{lit<}
 use lib.Pow.{pow_pos, pow_mono, shr-shr}
 use Rattle.numbers.specs.Words.{byte}
-use Rattle.numbers.proofs.Shifts.{one_shifted}
 use Rattle.numbers.proofs.Words.{byte-zero, byte-lt}
 use Rattle.expansions.specs.Inner.Answer.{least_choice}
 use Rattle.expansions.specs.declared.families.Family.{Family}
@@ -24,87 +24,69 @@ use Rattle.expansions.proofs.Least.{then-le, then_map, then-from, IsFirst, first
 use Rattle.expansions.proofs.Minimal.{choice-first, least_choice-ext}
 use Rattle.expansions.proofs.Rules.{rule-outweighs}
 use Rattle.expansions.proofs.SmallSums.{stands-for, least_choice-scaled, least_choice-sums, sum_charge-least}
-use Rattle.charges.specs.Inner.Charges.{IsLeastSum, IsCheapest}
+use Rattle.charges.specs.Inner.Charges.{compared, IsLeastSum, IsCheapest}
 use Rattle.charges.specs.declared.cheapest.LeastSum.{LeastSum}
 use Rattle.charges.specs.declared.cheapest.Cheapest.{Cheapest}
 
--- the sum and the choice of `least` are the first least of the sums of the choices below phi; every sum is below the top
-abbrev LeadsBelow : (top : ℕ) → (ℕ → ℕ) → LeastSum → ℕ → Type 0
-LeadsBelow top sums least phi = Leading top sums (first_least phi (λ φ. true) sums) least.sum least.choice
+-- what is compared of the choice φ
+abbrev pub number : (masked : Bool) (sums masks φ : ℕ) → ℕ
+number masked sums masks φ = compared masked (byte φ sums) (byte φ masks)
 
--- `left` of the choices are to be tried
-pub record SumsTried (k top : ℕ) (sums : ℕ → ℕ) (count : ℕ) (least : LeastSum) (left : ℕ) : Type 0 where
-  pub few : k ≤ 3
-  pub all : count ≡ 2 ^ k
-  pub some : left < count
-  pub below : (φ : ℕ) → sums φ < top
-  pub best : LeadsBelow top sums least (count - left)
+number-lt : (masked : Bool) (sums masks φ : ℕ) → number masked sums masks φ < 65536
+number-lt true sums masks φ = omega (arith, byte-lt φ sums, byte-lt φ masks)
+number-lt false sums masks φ = omega (arith, byte-lt φ sums)
 
--- `rest` has the bytes of the word from the first that is to be tried
-abbrev pub Shifted : (w count rest left : ℕ) → Type 0
-Shifted w count rest left = rest ≡ w / 2 ^ (8 * (count - left))
+-- the sum and the choice of `least` are the first least of the choices below phi
+abbrev LeadsBelow : (masked : Bool) (sums masks : ℕ) → LeastSum → ℕ → Type 0
+LeadsBelow masked sums masks least phi =
+    Leading 65536 (number masked sums masks) (first_least phi (λ φ. true) (number masked sums masks)) least.sum least.choice
 
-pub count-pos : (k : ℕ) → k ≤ 3 → 1 ≤ 1 * 2 ^ k % 2 ^ 64
-count-pos k h = omega (arith, one_shifted k (omega arith), pow_pos k)
+-- the choices below phi are tried, and the rest of each word has the bytes from phi on
+pub record Tried (masked : Bool) (sums masks : ℕ) (least : LeastSum) (rest rest_masks phi : ℕ) : Type 0 where
+  pub best : LeadsBelow masked sums masks least phi
+  pub sums_left : rest ≡ sums / 2 ^ (8 * phi)
+  pub masks_left : rest_masks ≡ masks / 2 ^ (8 * phi)
 
--- the choice 0 is tried
-module _ (k : ℕ) (h : k ≤ 3) where
-  one : 1 * 2 ^ k % 2 ^ 64 - (1 * 2 ^ k % 2 ^ 64 - 1) ≡ 1
-  one = omega (arith, count-pos k h)
+pub tried-first : (masked : Bool) (sums masks sum : ℕ) → sum ≡ number masked sums masks 0 → Tried masked sums masks (record { sum = sum; choice = 0 }) (sums / 256) (masks / 256) 1
+unfolding first_least better
+tried-first masked sums masks sum e = record { best = (refl, e); sums_left = refl; masks_left = refl }
 
-  pub shifted-first : (w : ℕ) → Shifted w (1 * 2 ^ k % 2 ^ 64) (w / 256) (1 * 2 ^ k % 2 ^ 64 - 1)
-  shifted-first w = ap (λ (x : ℕ). w / 2 ^ (8 * x)) (sym one)
-
-  pub tried-first : (top : ℕ) (sums : ℕ → ℕ) (sum : ℕ) → ((φ : ℕ) → sums φ < top) → sum ≡ sums 0
-      → SumsTried k top sums (1 * 2 ^ k % 2 ^ 64) (record { sum = sum; choice = 0 }) (1 * 2 ^ k % 2 ^ 64 - 1)
-  unfolding first_least better
-  tried-first top sums sum small e =
-      record { few = h; all = one_shifted k (omega arith); some = omega (arith, count-pos k h); below = small; best = rw one (refl, e) }
-
--- the byte that is read, and what is left of a word after it
-module _ (w count rest left : ℕ) (turn : 0 < left) (some : left < count) (s : Shifted w count rest left) where
-  pub shifted-byte : byte 0 rest ≡ byte (count - left) w
+module _ (masked : Bool) (sums masks : ℕ) (least : LeastSum) (rest rest_masks phi sum : ℕ) (tried : Tried masked sums masks least rest rest_masks phi)
+    (e : sum ≡ number masked rest rest_masks 0) where
+  -- what is left of a word from its byte phi on
+  left-byte : (w rest : ℕ) → rest ≡ w / 2 ^ (8 * phi) → byte 0 rest ≡ byte phi w
   unfolding byte
-  shifted-byte = byte-zero rest ∙ ap (λ (y : ℕ). y % 256) s
+  left-byte w rest h = byte-zero rest ∙ ap (λ (x : ℕ). x % 256) h
 
-  pub shifted-more : Shifted w count (rest / 256) (left - 1)
-  shifted-more =
-      let bits : 8 * (count - left) + 8 ≡ 8 * (count - (left - 1)) = omega arith in
-      ap (λ (x : ℕ). x / 256) s ∙ shr-shr w (8 * (count - left)) 8 ∙ ap (λ (x : ℕ). w / 2 ^ x) bits
+  left-more : (w rest : ℕ) → rest ≡ w / 2 ^ (8 * phi) → rest / 256 ≡ w / 2 ^ (8 * (phi + 1))
+  left-more w rest h =
+      let bits : 8 * phi + 8 ≡ 8 * (phi + 1) = omega arith in
+      ap (λ (x : ℕ). x / 256) h ∙ shr-shr w (8 * phi) 8 ∙ ap (λ (x : ℕ). w / 2 ^ x) bits
 
-module _ (k top : ℕ) (sums : ℕ → ℕ) (count : ℕ) (least : LeastSum) (left sum : ℕ) (turn : 0 < left) (tried : SumsTried k top sums count least left)
-    (read : sum ≡ sums (count - left)) where
-  abbrev phi : ℕ
-  phi = count - left
+  read : sum ≡ number masked sums masks phi
+  read = e ∙ ap₂ (compared masked) (left-byte sums rest tried.sums_left) (left-byte masks rest_masks tried.masks_left)
 
   -- one more choice, after which `next` is the best
-  tried-more : (next : LeastSum) → LeadsBelow top sums next (suc phi) → SumsTried k top sums count next (left - 1)
+  tried-more : (next : LeastSum) → LeadsBelow masked sums masks next (suc phi) → Tried masked sums masks next (rest / 256) (rest_masks / 256) (phi + 1)
   tried-more next best =
-      let more : suc phi ≡ count - (left - 1) = omega (arith, tried.some) in
-      record { few = tried.few; all = tried.all; some = omega (arith, tried.some); below = tried.below; best = rw more at best }
+      record { best = rw (add-one phi) best; sums_left = left-more sums rest tried.sums_left; masks_left = left-more masks rest_masks tried.masks_left }
 
-  pub tried-take : sum < least.sum → SumsTried k top sums count (record { sum = sum; choice = bit_and (count - left) 255 }) (left - 1)
+  pub tried-take : sum < least.sum → Tried masked sums masks (record { sum = sum; choice = phi }) (rest / 256) (rest_masks / 256) (phi + 1)
   tried-take h =
-      let eight : 2 ^ k ≤ 2 ^ 3 = pow_mono tried.few in
-      let same : bit_and phi 255 ≡ phi = and_mask phi 8 ∙ mod-eq_of_lt (omega (arith, tried.all)) in
-      tried-more (record { sum = sum; choice = bit_and phi 255 })
-      (rw same (leading-take top (λ φ. true) sums phi least.sum least.choice tried.best sum refl read h))
+      tried-more (record { sum = sum; choice = phi })
+      (leading-take 65536 (λ φ. true) (number masked sums masks) phi least.sum least.choice tried.best sum refl read h)
 
-  pub tried-keep : least.sum ≤ sum → SumsTried k top sums count least (left - 1)
+  pub tried-keep : least.sum ≤ sum → Tried masked sums masks least (rest / 256) (rest_masks / 256) (phi + 1)
   tried-keep h =
       tried-more least
-      (leading-keep top (λ φ. true) sums phi least.sum least.choice tried.best sum refl read (omega (arith, read, tried.below phi)) h)
+      (leading-keep 65536 (λ φ. true) (number masked sums masks) phi least.sum least.choice tried.best sum refl read (omega (arith, read, number-lt masked sums masks phi)) h)
 
-pub tried-all : (k top : ℕ) (sums : ℕ → ℕ) (count : ℕ) (least : LeastSum) (left : ℕ) → left ≤ 0 → SumsTried k top sums count least left → IsLeastSum (2 ^ k) sums least
+pub tried-all : (masked : Bool) (count sums masks : ℕ) (least : LeastSum) (rest rest_masks phi : ℕ) → 0 < count → phi ≡ count
+    → Tried masked sums masks least rest rest_masks phi → IsLeastSum count (number masked sums masks) least
 unfolding least_choice
-tried-all k top sums count least left h t =
-    let e : count - left ≡ 2 ^ k = omega (arith, t.all) in
-    let d = leading-chosen top (λ φ. true) sums (2 ^ k) least.sum least.choice (rw e at t.best) 0 (pow_pos k) tt in
+tried-all masked count sums masks least rest rest_masks phi some e t =
+    let d = leading-chosen 65536 (λ φ. true) (number masked sums masks) count least.sum least.choice (rw e at t.best) 0 some tt in
     record { choice = d.0; sum = d.1 }
-
--- a byte of each word
-pub pair_lt : (sums masks φ : ℕ) → byte φ sums * 256 + byte φ masks < 65536
-pair_lt sums masks φ = omega (arith, byte-lt φ sums, byte-lt φ masks)
 
 -- ---- from two words
 
@@ -195,7 +177,7 @@ module _ (F : Family) (N more : ℕ) (some : 0 < N) (used : ℕ → ℕ) (least 
             ∙ ap cost same;
       }
 
--- by other sums or costs that are the same under each choice
+-- by other sums that are the same under each choice
 pub least-ext : (N : ℕ) → 0 < N → (sums other : ℕ → ℕ) (r : LeastSum) → ((x : ℕ) → x < N → sums x ≡ other x) → IsLeastSum N sums r → IsLeastSum N other r
 least-ext N some sums other r e is =
     let same : least_choice N sums ≡ least_choice N other = least_choice-ext N sums other e in
@@ -205,9 +187,27 @@ least-ext N some sums other r e is =
 pub least_zero : (N : ℕ) → 0 < N → (sums : ℕ → ℕ) (r : LeastSum) → IsLeastSum N (λ q. sums (0 * 8 + q)) r → IsLeastSum N sums r
 least_zero N some sums r = least-ext N some _ sums r (λ q l. ap sums (zero-add q))
 
+-- where the terms do not choose apart there are 2^k choices, which the code counts in a byte
+module _ (k : ℕ) (few : k ≤ 3) where
+  choices-le : 2 ^ k ≤ 8
+  choices-le = pow_mono {i = k} {j = 3} few
+
+  pub choices-counted : 1 * 2 ^ k % 2 ^ 8 ≡ 2 ^ k
+  choices-counted = let same : 1 * 2 ^ k ≡ 2 ^ k = omega arith in mod-eq_of_lt (omega (arith, choices-le)) ∙ same
+
+  pub choices-counted-some : 0 < 1 * 2 ^ k % 2 ^ 8
+  choices-counted-some = omega (arith, choices-counted, pow_pos k)
+
+  pub choices-counted-le : 1 * 2 ^ k % 2 ^ 8 ≤ 8
+  choices-counted-le = omega (arith, choices-counted, choices-le)
+
+  pub least-counted : (sums : ℕ → ℕ) (r : LeastSum) → IsLeastSum (1 * 2 ^ k % 2 ^ 8) (λ q. sums (0 * 8 + q)) r → IsLeastSum (2 ^ k) sums r
+  least-counted sums r is = least_zero (2 ^ k) (pow_pos k) sums r (rw choices-counted at is)
+
 pub least_lt : (N : ℕ) → 0 < N → (sums : ℕ → ℕ) (r : LeastSum) → IsLeastSum N sums r → r.choice < N
 least_lt N some sums r is = rw is.choice (choice-first N some sums).below
 
+-- by other costs that are the same under each choice
 pub cheapest-ext : (N : ℕ) → 0 < N → (cost other : ℕ → ℕ) (r : Cheapest) → ((x : ℕ) → x < N → cost x ≡ other x) → IsCheapest N cost r → IsCheapest N other r
 cheapest-ext N some cost other r e is =
     let same : least_choice N cost ≡ least_choice N other = least_choice-ext N cost other e in

@@ -14,7 +14,7 @@ use Rattle.numbers.specs.Sums.{fold_below}
 use Rattle.numbers.specs.Words.{word}
 use Rattle.numbers.proofs.Bits.{bit-lt}
 use Rattle.numbers.proofs.Pack.{pack-lt}
-use Rattle.numbers.proofs.Words.{word-zero, word-or, word_lt}
+use Rattle.numbers.proofs.Words.{word-zero, word-or}
 use Rattle.expansions.specs.declared.kinds.Class.{Class}
 use Rattle.expansions.specs.Classes.{apart}
 use Rattle.expansions.specs.BlockTable.{choice_entry, Rows}
@@ -29,12 +29,6 @@ use Rattle.lanes.specs.Inner.Terms.{coefficient_in}
 
 -- ---- from the rows of a class
 
--- the row of a function is a word
-pub row_fits : (C : Class) (k : ℕ) (rows : List ℕ) → Rows C k rows → (half : ℕ) → half < cond (apart C k) 2 1 → (g : ℕ) → g < 256
-    → at rows (half * 256 + g) < 2 ^ 64
-row_fits C k rows held half h g l =
-    rw (held half g h l) (word_lt 8 (λ q. choice_entry C k g (half * 8 + q)) (λ q b. choice_entry-lt C k g (half * 8 + q) (half-held C k half q h b)))
-
 -- every class has the first eight choices
 pub first-half : (C : Class) (k : ℕ) → 0 < cond (apart C k) 2 1
 first-half C k = go (apart C k)
@@ -47,11 +41,10 @@ first-half C k = go (apart C k)
 abbrev pub or_below : (rows lanes : List ℕ) → (half j o : ℕ) → ℕ
 or_below rows lanes half j o = fold_below bit_or o (λ p. at rows (half * 256 + at lanes (j * 8 + p)))
 
-pub or-more : (rows lanes : List ℕ) (half j o used : ℕ) → used ≡ or_below rows lanes half j o
-    → bit_or used (at rows (half * 256 + at lanes (j * 8 + o))) ≡ or_below rows lanes half j (o + 1)
+pub or-more : (rows lanes : List ℕ) (half j o used row : ℕ) → used ≡ or_below rows lanes half j o → row ≡ at rows (half * 256 + at lanes (j * 8 + o))
+    → bit_or used row ≡ or_below rows lanes half j (o + 1)
 unfolding fold_below
-or-more rows lanes half j o used e =
-    ap (λ (x : ℕ). bit_or x (at rows (half * 256 + at lanes (j * 8 + o)))) e ∙ ap (or_below rows lanes half j) (sym (add-one o))
+or-more rows lanes half j o used row e r = ap₂ bit_or e r ∙ ap (or_below rows lanes half j) (sym (add-one o))
 
 module _ (C : Class) (k : ℕ) (rows lanes : List ℕ) (held : Rows C k rows) (half j : ℕ) (h : half < cond (apart C k) 2 1) where
   -- the terms that some output below o has in block j, under each of the eight choices
@@ -67,12 +60,10 @@ module _ (C : Class) (k : ℕ) (rows lanes : List ℕ) (held : Rows C k rows) (h
       ∙ word-or 8 (used_below o) (λ q. choice_entry C k g (half * 8 + q)) (λ q l. entries-lt o C k (half * 8 + q) (λ p. at lanes (j * 8 + p)) (half-held C k half q h l))
       (λ q l. choice_entry-lt C k g (half * 8 + q) (half-held C k half q h l))
 
-  pub used_all : (o used : ℕ) → o ≤ 8 → 8 ≤ o → used ≡ or_below rows lanes half j o → ((p : ℕ) → p < o → at lanes (j * 8 + p) < 256)
+  pub used_all : (o used : ℕ) → o ≡ 8 → used ≡ or_below rows lanes half j o → ((p : ℕ) → at lanes (j * 8 + p) < 256)
       → used ≡ word 8 (λ q. used_at C k (at lanes) j (half * 8 + q))
   unfolding used_at
-  used_all o used a b e small =
-      let eight : o ≡ 8 = omega arith in
-      e ∙ ap (or_below rows lanes half j) eight ∙ used-below 8 (λ p l. small p (omega arith))
+  used_all o used eight e small = e ∙ ap (or_below rows lanes half j) eight ∙ used-below 8 (λ p l. small p)
 
 pub used_at-lt : (C : Class) (k : ℕ) (lanes : ℕ → ℕ) (j x : ℕ) → x < cond (apart C k) 16 8 → used_at C k lanes j x < 2 ^ 8
 unfolding used_at

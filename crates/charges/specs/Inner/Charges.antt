@@ -1,6 +1,6 @@
 -- What a block costs, from the functions of all blocks, and its least choice. Cited by the contracts of this crate's functions and of private
 -- functions of `search`; the contract of no call rests on this file.
-use Rattle.std.specs.Prelude.{◌≡◌, ℕ, ◌+◌, ◌*◌, ◌/◌}
+use Rattle.std.specs.Prelude.{Bool, cond, ◌≡◌, ℕ, ◌+◌, ◌*◌, ◌/◌}
 use Rattle.std.specs.Int.Bits.{bit_or}
 use Rattle.std.specs.Int.Count.{ones}
 use Rattle.numbers.specs.Sums.{fold_below}
@@ -35,6 +35,10 @@ all_sum C k lanes j x = small_sum (used_at C k lanes j x)
 -- the small sum of block 0 under x without the constant, whose coefficient, the mask, stands in the byte below the sum
 abbrev pub masked_sum : Class → ℕ → (ℕ → ℕ) → ℕ → ℕ
 masked_sum C k lanes x = small_sum (used_at C k lanes 0 x / 2 * 2) * 256 + coefficient_in C k lanes 0 0 x
+
+-- what is compared of a choice: its sum, and where there are masks the mask in the byte below it
+abbrev pub compared : Bool → (sum mask : ℕ) → ℕ
+compared masked sum mask = cond masked (sum * 256 + mask) sum
 
 -- the first of the least of N numbers
 pub record IsLeastSum (N : ℕ) (sums : ℕ → ℕ) (r : LeastSum) : Type 0 where

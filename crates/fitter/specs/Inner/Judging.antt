@@ -5,13 +5,13 @@ use Rattle.numbers.specs.Tests.{every}
 use Rattle.membership.specs.Class.{legal_pair, shows_back}
 use Rattle.table_texts.specs.declared.sizes.Sizes.{Sizes}
 use Rattle.listing_texts.specs.declared.read.ListingRead.{ListingRead}
-use Rattle.fitter.specs.declared.check.Checked.{Checked}
-use Rattle.fitter.specs.declared.check.Checked.TheVariants.{NotOfClass}
+use Rattle.fitter.specs.declared.check.Verdict.{Verdict}
+use Rattle.fitter.specs.declared.check.Verdict.TheVariants.{NotOfClass}
 use Rattle.fitter.specs.Differences.{inverted_value, first_difference}
 use Rattle.fitter.specs.Inner.Answer.{compared}
 
 -- the class, then the points, from the record and the inputs that each cube shows complemented
-unfoldable pub judged_record : Sizes → List ℕ → ListingRead → Checked
+unfoldable pub judged_record : Sizes → List ℕ → ListingRead → Verdict
 judged_record z table r =
     let e = r.expansion in
     cond

@@ -9,14 +9,17 @@ use lib.Arith.{digits_div, digits_mod}
 use lib.Bits.{bit_and, and_mask}
 use lib.ListN.{length, take, replicate}
 use lib.Pow.{pow_mono}
-use lib.Seq.{sets}
+use borrow.Rule.Slice.PartMut.{put_mid}
+use Rattle.std.specs.Int.{w64, to_le_bytes}
 use Rattle.numbers.specs.Bytes.{at, tabulate}
 use Rattle.numbers.specs.Bits.{bit}
 use Rattle.numbers.specs.Words.{word, byte}
 use Rattle.numbers.proofs.Bits.{bit-lt}
-use Rattle.numbers.proofs.Bytes.{Filled, filled-run, length-tabulate, at-tabulate, tabulate-ext}
+use Rattle.numbers.proofs.Bytes.{length-tabulate, at-tabulate, tabulate-ext}
 use Rattle.numbers.proofs.Pack.{pack-ext, pack-lt}
+use Rattle.numbers.proofs.Front.{Front, front_run}
 use Rattle.numbers.proofs.Words.{word_byte}
+use Rattle.numbers.proofs.WordBytes.{tabulate-to_le_bytes}
 use Rattle.algebra.specs.Coefficients.{coefficient}
 use Rattle.algebra.proofs.Coefficients.{coefficient-ext}
 use Rattle.expansions.specs.Split.{gather, spread, outside, join}
@@ -38,19 +41,21 @@ opened-byte n mask y x h e = rw e (and_mask (spread n mask y) 8 ∙ mod-eq_of_lt
 abbrev pub laid_byte : (table points offsets : List ℕ) → ℕ → ℕ
 laid_byte table points offsets x = lane_byte table (at points (x / 8)) offsets (x % 8)
 
--- the bytes of block q more, which code has in one word
-pub laid_more : (table points offsets before after written : List ℕ) (q point all : ℕ) → point ≡ at points q → all ≡ word 8 (lane_byte table point offsets)
-    → written ≡ sets after (8 * q) (tabulate 8 (λ o. byte o all)) → 8 * q + 8 ≤ length after
-    → Filled (laid_byte table points offsets) (8 * q) before after → Filled (laid_byte table points offsets) (8 * (q + 1)) before written
-laid_more table points offsets before after written q point all first bytes run room so_far =
-    let e : 8 * (q + 1) ≡ 8 * q + 8 = omega arith in
-    rw (run, e) (filled-run (laid_byte table points offsets) (λ o. byte o all) 8 (8 * q) before after room same so_far)
+-- the bytes of block q more, which code takes from one word
+pub laid_more : (table points offsets lanes run bytes : List ℕ) (q point all N : ℕ) → 8 * q + 8 ≤ N → point ≡ at points q
+    → all ≡ word 8 (lane_byte table point offsets) → bytes ≡ to_le_bytes w64 all → run ≡ bytes → Front (laid_byte table points offsets) N (8 * q) lanes
+    → Front (laid_byte table points offsets) N (8 * (q + 1)) (put_mid (8 * q) (8 * q + 8 - 8 * q) lanes run)
+laid_more table points offsets lanes run bytes q point all N room first outputs taken written so_far =
+    let long : 8 * q + 8 - 8 * q ≡ 8 = omega arith in
+    let next : 8 * (q + 1) ≡ 8 * q + 8 = omega arith in
+    rw (long, next)
+    (front_run (laid_byte table points offsets) (λ o. byte o all) N (8 * q) 8 lanes run room (written ∙ taken ∙ tabulate-to_le_bytes all) same so_far)
   where
     same : (o : ℕ) → o < 8 → byte o all ≡ laid_byte table points offsets (8 * q + o)
     same o h =
         let block : q ≡ (8 * q + o) / 8 = omega arith in
         let output : o ≡ (8 * q + o) % 8 = omega arith in
-        ap (byte o) bytes ∙ word_byte 8 (lane_byte table point offsets) (λ x l. pack-lt 8 _ (λ p k. bit-lt x _)) o h
+        ap (byte o) outputs ∙ word_byte 8 (lane_byte table point offsets) (λ x l. pack-lt 8 _ (λ p k. bit-lt x _)) o h
         ∙ ap₂ (λ (p x : ℕ). lane_byte table p offsets x) (first ∙ ap (at points) block) output
 
 -- the first point of each block, in the lent part of an array

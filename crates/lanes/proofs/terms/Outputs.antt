@@ -5,7 +5,7 @@ use mathlib.Core.Path.{◌≡◌, ap, ◌∙◌}
 use mathlib.Core.List.{List}
 use Prim.Native.Nat.{ℕ, ◌+◌, ◌*◌, ◌/◌, ◌%◌, ◌^◌, ◌<◌}
 use native.Mathlib.Omega.{arith}
-use lib.Bits.{bit_and, and_mask, mask_lt}
+use lib.Bits.{bit_and, and_mask}
 use Rattle.numbers.specs.Bytes.{at}
 use Rattle.numbers.specs.Bits.{bit, pack}
 use Rattle.numbers.proofs.Bits.{bit-lt}
@@ -21,25 +21,24 @@ use Rattle.lanes.specs.Inner.Terms.{coefficient_in}
 abbrev pub output_bit : (rows lanes : List ℕ) → (j s x : ℕ) → ℕ → ℕ
 output_bit rows lanes j s x o = bit (8 * (x % 8) + s) (at rows (x / 8 * 256 + at lanes (j * 8 + o)))
 
--- as the code reads it
-abbrev pub digit : (rows lanes : List ℕ) (j s x o : ℕ) → ℕ
-digit rows lanes j s x o = bit_and (at rows (x / 8 * 256 + at lanes (j * 8 + o)) / 2 ^ (8 * bit_and x 7 + s)) 1
-
-pub digit_lt : (rows lanes : List ℕ) (j s x o : ℕ) → digit rows lanes j s x o < 2
-digit_lt rows lanes j s x o = mask_lt (at rows (x / 8 * 256 + at lanes (j * 8 + o)) / 2 ^ (8 * bit_and x 7 + s)) 1
+-- as the code reads it: `half` and `few` are the choice's half and its number there, and g is the function of output o
+abbrev digit : (rows : List ℕ) (half few g s : ℕ) → ℕ
+digit rows half few g s = bit_and (at rows (half * 256 + g) / 2 ^ (8 * few + s)) 1
 
 -- The byte of the outputs below o, with output o added.
-module _ (rows lanes : List ℕ) (j s x o byte : ℕ) (few : o < 8) (outputs : byte ≡ pack o (output_bit rows lanes j s x)) where
-  output-read : digit rows lanes j s x o ≡ output_bit rows lanes j s x o
+module _ (rows lanes : List ℕ) (j s x o byte half few g : ℕ) (next : o < 8) (outputs : byte ≡ pack o (output_bit rows lanes j s x))
+    (high : half ≡ x / 8) (low : few ≡ bit_and x 7) (function : g ≡ at lanes (j * 8 + o)) where
+  output-read : digit rows half few g s ≡ output_bit rows lanes j s x o
   output-read =
-      let row : ℕ = at rows (x / 8 * 256 + at lanes (j * 8 + o)) in
-      and_mask (row / 2 ^ (8 * bit_and x 7 + s)) 1 ∙ ap (λ (y : ℕ). bit (8 * y + s) row) (and_mask x 3)
+      rw (high, low, function)
+      (let row : ℕ = at rows (x / 8 * 256 + at lanes (j * 8 + o)) in
+      and_mask (row / 2 ^ (8 * bit_and x 7 + s)) 1 ∙ ap (λ (y : ℕ). bit (8 * y + s) row) (and_mask x 3))
 
-  pub outputs-more : byte + digit rows lanes j s x o * 2 ^ o % 2 ^ 8 ≡ pack (o + 1) (output_bit rows lanes j s x)
-  outputs-more = rw output-read (pack-more o byte (output_bit rows lanes j s x) few (λ p. bit-lt (8 * (x % 8) + s) _) outputs)
+  pub outputs-more : byte + digit rows half few g s * 2 ^ o % 2 ^ 8 ≡ pack (o + 1) (output_bit rows lanes j s x)
+  outputs-more = rw output-read (pack-more o byte (output_bit rows lanes j s x) next (λ p. bit-lt (8 * (x % 8) + s) _) outputs)
 
-  pub outputs-fit : byte + digit rows lanes j s x o * 2 ^ o % 2 ^ 8 < 2 ^ 8
-  outputs-fit = rw output-read (pack-fits o byte (output_bit rows lanes j s x) few (λ p. bit-lt (8 * (x % 8) + s) _) outputs)
+  pub outputs-fit : byte + digit rows half few g s * 2 ^ o % 2 ^ 8 < 2 ^ 8
+  outputs-fit = rw output-read (pack-fits o byte (output_bit rows lanes j s x) next (λ p. bit-lt (8 * (x % 8) + s) _) outputs)
 
 -- ---- with the rows of a class
 

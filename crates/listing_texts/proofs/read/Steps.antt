@@ -7,6 +7,7 @@ use native.Mathlib.Nat.{zero-add}
 use native.Mathlib.Numerals.{add-one}
 use native.Mathlib.Omega.{arith}
 use lib.ListN.{length, take, drop}
+use Rattle.numbers.specs.declared.refusals.Refusal.TheVariants.{BrokenListing}
 use Rattle.listings.specs.Parts.{parts}
 use Rattle.listings.specs.Inner.Stops.{stop}
 use Rattle.listings.proofs.Parts.{first-take, others-none, others-more, first-slice, others-last, others-next}
@@ -26,7 +27,7 @@ module _ (s : List ℕ) (to : ℕ) (e : to ≡ stop 10 s 0) where
 
   -- ---- beside a table with the sizes z
 
-  pub listing-unfinished : (z : Sizes) → length s ≤ to → listing_reading z s ≡ refused 11 1
+  pub listing-unfinished : (z : Sizes) → length s ≤ to → listing_reading z s ≡ refused BrokenListing 1
   listing-unfinished z h = reading-unfinished s (omega (arith, first-length)) z
 
   pub listing-judged : (z : Sizes) → to < length s → listing_reading z s ≡ opened z (take to s) (drop (to + 1) s)
@@ -36,7 +37,7 @@ module _ (s : List ℕ) (to : ℕ) (e : to ≡ stop 10 s 0) where
 
   -- ---- beside a `K` table
 
-  pub beside-unfinished : length s ≤ to → beside_kronecker s ≡ 11
+  pub beside-unfinished : length s ≤ to → beside_kronecker s ≡ BrokenListing
   unfolding beside_kronecker beside_lines
   beside-unfinished h = ap (beside_lines (parts 10 s).first) (others-none 10 s (omega (arith, first-length)))
 
@@ -49,7 +50,7 @@ module _ (s : List ℕ) (to : ℕ) (e : to ≡ stop 10 s 0) where
 -- ---- from the second line on
 
 module _ (z : Sizes) (f : Form) (s : List ℕ) (at to : ℕ) (e : to ≡ stop 10 s at) where
-  pub second-line-unfinished : length s ≤ to → second_at z f s at ≡ refused 11 2
+  pub second-line-unfinished : length s ≤ to → second_at z f s at ≡ refused BrokenListing 2
   unfolding from_second
   second-line-unfinished h = rw (others-last 10 s at (omega (arith, e)))
 

@@ -1,4 +1,4 @@
--- When the minimising call is carried out: a refusal's number of 0 says that every test has passed (`refusal-none`). Where n, m and k are
+-- When the minimising call is carried out: a judgement with no refusal says that every test has passed (`refusal-none`). Where n, m and k are
 -- within their bounds, only the lengths and the bytes can refuse (`refusal-lengths`, `refusal-bytes`).
 use mathlib.Core.Path.{◌≡◌, ◌∙◌}
 use mathlib.Core.Bool.{◌&&◌}
@@ -9,21 +9,23 @@ use borrow.Author.Tests.{eq-eqb}
 use lib.Dec.{T, eqb, eqb→eq}
 use lib.ListN.{length}
 use lib.Pow.{pow_mono}
+use Rattle.std.specs.Prelude.{Ok}
 use Rattle.numbers.specs.Bytes.{all_below}
+use Rattle.numbers.specs.declared.refusals.Refusal.TheVariants.{BufferLength, HighBit}
 use Rattle.numbers.specs.Refusals.{unless, sizes_refusal, Sized}
 use Rattle.numbers.proofs.Tests.{and_left, and_right}
-use Rattle.numbers.proofs.refusals.Judging.{passed, or_else_none, sizes-none, sizes-accepted}
+use Rattle.numbers.proofs.refusals.Judging.{Passed, passed, or_else_none, sizes-none, sizes-accepted}
 use Rattle.minimise_calls.specs.Calls.{minimise_refusal}
 
 pub refusal-lengths : (n m k : ℕ) (table : List ℕ) (coefficients blocks : ℕ) → Sized n m 3 k → minimise_refusal n m k table coefficients blocks
-    ≡ unless (eqb (length table) (2 ^ n) && (eqb coefficients (2 ^ n) && eqb blocks (2 ^ (n - k)))) 8 (unless (all_below (2 ^ m) table) 9 0)
+    ≡ unless (eqb (length table) (2 ^ n) && (eqb coefficients (2 ^ n) && eqb blocks (2 ^ (n - k)))) BufferLength (unless (all_below (2 ^ m) table) HighBit (Ok tt))
 unfolding minimise_refusal
 refusal-lengths n m k table coefficients blocks b =
     rw (sizes-accepted n m 3 k b)
 
 -- where the lengths are right too, only the bytes can
 pub refusal-bytes : (n m k : ℕ) (table : List ℕ) (coefficients blocks : ℕ) → Sized n m 3 k → length table ≡ 2 ^ n → coefficients ≡ 2 ^ n → blocks ≡ 2 ^ (n - k)
-    → minimise_refusal n m k table coefficients blocks ≡ unless (all_below (2 ^ m) table) 9 0
+    → minimise_refusal n m k table coefficients blocks ≡ unless (all_below (2 ^ m) table) HighBit (Ok tt)
 refusal-bytes n m k table coefficients blocks b l c j =
     refusal-lengths n m k table coefficients blocks b ∙ rw (eq-eqb (length table) (2 ^ n) l, eq-eqb coefficients (2 ^ n) c, eq-eqb blocks (2 ^ (n - k)) j)
 
@@ -35,13 +37,13 @@ pub record Accepted (n m k : ℕ) (table : List ℕ) (coefficients blocks : ℕ)
   pub blocks_long : blocks ≡ 2 ^ (n - k)
   pub clean : T (all_below (2 ^ m) table)
 
-pub refusal-none : (n m k : ℕ) (table : List ℕ) (coefficients blocks : ℕ) → minimise_refusal n m k table coefficients blocks ≡ 0
+pub refusal-none : (n m k : ℕ) (table : List ℕ) (coefficients blocks : ℕ) → Passed (minimise_refusal n m k table coefficients blocks)
     → Accepted n m k table coefficients blocks
 unfolding minimise_refusal
 refusal-none n m k table coefficients blocks e =
     let a = or_else_none (sizes_refusal n m 3 k) _ e in
-    let d = passed (eqb (length table) (2 ^ n) && (eqb coefficients (2 ^ n) && eqb blocks (2 ^ (n - k)))) 7 _ a.1 in
-    let f = passed (all_below (2 ^ m) table) 8 _ d.1 in
+    let d = passed (eqb (length table) (2 ^ n) && (eqb coefficients (2 ^ n) && eqb blocks (2 ^ (n - k)))) BufferLength _ a.1 in
+    let f = passed (all_below (2 ^ m) table) HighBit _ d.1 in
     let lent = and_right (eqb (length table) (2 ^ n)) (eqb coefficients (2 ^ n) && eqb blocks (2 ^ (n - k))) d.0 in
     record {
       sized = sizes-none n m 3 k a.0;

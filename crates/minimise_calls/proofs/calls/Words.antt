@@ -1,21 +1,21 @@
 -- The refusals of the minimising call in document 01's words: `refusal-words`, and `refusal-accepted` of the arguments that meet none.
-use mathlib.Core.Path.{◌≡◌, sym, ◌∙◌}
+use mathlib.Core.Path.{◌≡◌, ◌∙◌}
 use mathlib.Core.Bool.{false, ◌&&◌}
 use mathlib.Core.List.{List}
 use Prim.Native.Nat.{ℕ, ◌-◌, ◌^◌}
-use native.Mathlib.Omega.{arith}
 use lib.Dec.{eqb, eqb→eq}
 use lib.ListN.{length}
 use lib.Pow.{pow_pos}
+use Rattle.std.specs.Prelude.{Result, Ok, Err}
 use Rattle.numbers.specs.Bytes.{all_below}
-use Rattle.numbers.specs.Refusals.{Sized, WithinOutputs}
+use Rattle.numbers.specs.declared.refusals.Refused.{Refused}
+use Rattle.numbers.specs.Refusals.{declined, Sized, WithinOutputs}
 use Rattle.numbers.proofs.Tests.{and_left, and_right}
-use Rattle.numbers.proofs.refusals.Judging.{passes, fails, sizes-refusals}
+use Rattle.numbers.proofs.refusals.Judging.{passes, fails, sizes-refusals, refused_accepted}
 use Rattle.numbers.proofs.refusals.Outputs.{below_at, below-from}
 use Rattle.search.specs.declared.expansion.Expansion.{Expansion}
-use Rattle.minimise_calls.specs.Calls.{minimise_refusal, minimised, Lengths, MinimiseRefusals}
-use Rattle.minimise_calls.specs.declared.calls.Minimised.{Minimised}
-use Rattle.minimise_calls.specs.declared.calls.Minimised.TheVariants.{Found, Refused}
+use Rattle.minimise_calls.specs.Calls.{minimise_refusal, minimum_of, minimised, Lengths, MinimiseRefusals}
+use Rattle.minimise_calls.specs.declared.calls.Minimum.{Minimum}
 use Rattle.minimise_calls.proofs.calls.Judging.{refusal-lengths, refusal-bytes}
 
 module _ (n m k : ℕ) (table c b : List ℕ) where
@@ -30,24 +30,20 @@ module _ (n m k : ℕ) (table c b : List ℕ) where
         eqb→eq (length b) (2 ^ (n - k)) (and_right (eqb (length c) (2 ^ n)) (eqb (length b) (2 ^ (n - k))) lent),
       ))
 
-  pub refusal-words : (r : Minimised) (e : Expansion) → r ≡ minimised (minimise_refusal n m k table (length c) (length b)) e
-      → MinimiseRefusals n m k table c b (λ number. r ≡ Refused number 0)
-  unfolding minimised minimise_refusal
+  pub refusal-words : (r : Result Minimum Refused) (e : Expansion) → r ≡ minimised (minimise_refusal n m k table (length c) (length b)) e
+      → MinimiseRefusals n m k table c b (λ why. r ≡ Err (declined why 0))
+  unfolding minimise_refusal
   refusal-words r e answer =
       record {
-        sizes = sizes-refusals n m 3 k _ (λ x h. answer ∙ rw h);
+        sizes = sizes-refusals n m 3 k _ (λ why h. answer ∙ rw h);
         lengths = λ s none. answer ∙ rw (refusal-lengths n m k table (length c) (length b) s, lengths-fail none);
         bits = λ s h none.
             answer ∙ rw (refusal-bytes n m k table (length c) (length b) s h.0 h.1 h.2, fails (all_below (2 ^ m) table) (λ t. none (below_at (2 ^ m) table (pow_pos m) t)));
       }
 
-  refused-not-found : (M i p l v number line : ℕ) → Found M i p l v ≡ Refused number line → ⊥
-  refused-not-found M i p l v number line e = let z : ◌≡◌ {A = ℕ} 0 1 = cc in absurd (omega arith)
-
-  pub refusal-accepted : (r : Minimised) (e : Expansion) → r ≡ minimised (minimise_refusal n m k table (length c) (length b)) e
-      → Sized n m 3 k → Lengths n k table c b → WithinOutputs m table → (number line : ℕ) → r ≡ Refused number line → ⊥
-  unfolding minimised
-  refusal-accepted r e answer s h w number line told =
-      let found : minimised (minimise_refusal n m k table (length c) (length b)) e ≡ Found e.mixed e.fixed e.products e.literals e.inverted =
+  pub refusal-accepted : (r : Result Minimum Refused) (e : Expansion) → r ≡ minimised (minimise_refusal n m k table (length c) (length b)) e
+      → Sized n m 3 k → Lengths n k table c b → WithinOutputs m table → (refused : Refused) → r ≡ Err refused → ⊥
+  refusal-accepted r e answer s h w refused told =
+      let found : minimised (minimise_refusal n m k table (length c) (length b)) e ≡ Ok (minimum_of e) =
       rw (refusal-bytes n m k table (length c) (length b) s h.0 h.1 h.2, passes (all_below (2 ^ m) table) (below-from (2 ^ m) table w)) in
-      refused-not-found _ _ _ _ _ number line (sym (answer ∙ found) ∙ told)
+      refused_accepted r refused (minimum_of e) told (answer ∙ found)

@@ -1,31 +1,39 @@
 -- The numbers of a table that was read: its least cost is what the first line of the listing of its answer states (`stated-least`), so the counts of the record
 -- that the search hands up, with the length of its listing, are the listing's numbers (`mixed-numbers`, `kind-numbers`).
-use mathlib.Core.Path.{◌≡◌, sym, ap, ◌∙◌}
+use mathlib.Core.Path.{◌≡◌, sym, ap, subst, ◌∙◌}
 use mathlib.Core.List.{List}
 use Prim.Native.Nat.{ℕ}
 use lib.ListN.{length}
 use Rattle.numbers.specs.Bytes.{at}
+use Rattle.expansions.specs.declared.families.Family.TheVariants.{One}
+use Rattle.expansions.specs.declared.kinds.Kind.TheVariants as kind
 use Rattle.expansions.specs.Rivals.{LeastCost}
 use Rattle.expansions.proofs.Rivals.{least-unique, minimal-least, kronecker-minimal-least}
 use Rattle.search.specs.declared.expansion.Expansion.{Expansion}
-use Rattle.search.specs.Inner.Answer.{answer_expansion}
 use Rattle.search.proofs.expansion.Answer.{answer_expansion-is}
 use Rattle.kronecker.specs.declared.expansion.KroneckerExpansion.{KroneckerExpansion}
-use Rattle.kronecker.specs.Inner.Answer.{answer_kronecker}
 use Rattle.kronecker.proofs.expansion.Answer.{answer_kronecker-is}
 use Rattle.table_texts.specs.declared.sizes.Sizes.{Sizes}
 use Rattle.table_texts.specs.declared.sizes.Design.{Design}
 use Rattle.table_texts.specs.Accepted.{Accepted}
 use Rattle.table_texts.specs.Design.{mixed_design, kronecker_design}
 use Rattle.table_texts.proofs.Design.{table-sized}
+use Rattle.table_answers.specs.declared.answers.Answer.TheVariants.{Mixed, Kronecker}
+use Rattle.table_answers.specs.Answers.{answer_for}
 use Rattle.table_answers.proofs.Searched.{table-bytes}
+use Rattle.table_answers.proofs.Found.{mixed-found, kronecker-found}
 use Rattle.listings.specs.Listing.{listing}
 use Rattle.listings.specs.Meaning.{stated_products, stated_literals}
 use Rattle.listing_writing.specs.Write.{record_listing}
 use Rattle.text.specs.Inner.Compiled.{answer_listing}
 use Rattle.text.proofs.compile.Listings.{answer-listing}
-use Rattle.quote_text.specs.declared.quote.Quotation.TheVariants.{Given}
+use Rattle.text.proofs.compile.Tables.{mixed-written, kind-written}
+use Rattle.quote_text.specs.declared.quote.Quotation.{Quotation}
 use Rattle.quote_text.specs.Numbers.{listing_numbers}
+
+-- the numbers of a record of an answer and of its listing
+abbrev pub numbers : (products literals long : ℕ) → Quotation
+numbers products literals long = record { products = products; literals = literals; length = long }
 
 module _ (d : Design) (table : List ℕ) (a : Accepted d table) where
   -- the counts that the listing of the answer states are the least cost
@@ -40,7 +48,7 @@ module _ (d : Design) (table : List ℕ) (a : Accepted d table) where
   stated-least p l least = least-unique d.n d.family d.kind (at table) _ _ p l listing-least least
 
   least-numbers : (p l long : ℕ) → LeastCost d.n d.family d.kind (at table) p l → long ≡ length (answer_listing d table)
-      → Given p l long ≡ listing_numbers (answer_listing d table)
+      → numbers p l long ≡ listing_numbers (answer_listing d table)
   unfolding listing_numbers
   least-numbers p l long least e =
       let stated = stated-least p l least in
@@ -48,25 +56,30 @@ module _ (d : Design) (table : List ℕ) (a : Accepted d table) where
       let literals = sym stated.1 in
       rw (products, literals, e)
 
--- ---- by the kind of k
+  -- ---- by the kind of k
 
-pub mixed-numbers : (z : Sizes) (table : List ℕ) (e : Expansion) (long : ℕ) → Accepted (mixed_design z) table
-    → e ≡ answer_expansion z.class z.family z.n z.k (at table) → long ≡ length (listing z.class z.family z.n z.m z.k e)
-    → Given e.products e.literals long ≡ listing_numbers (answer_listing (mixed_design z) table)
-unfolding answer_listing
-mixed-numbers z table e long a found h =
-    let d = mixed_design z in
-    let bytes = table-bytes d.n d.m table (table-sized d a.sized) a.table in
-    let minimal = answer_expansion-is z.class z.family z.n z.k (at table) a.sized.inputs.1 a.sized.mixed.1 bytes in
-    least-numbers d table a _ _ long
-    (rw found (minimal-least z.class z.family z.n z.k (at table) a.sized.mixed.0 _ _ _ _ _ _ _ minimal))
-    (h ∙ ap (λ (x : Expansion). length (listing z.class z.family z.n z.m z.k x)) found)
+  pub mixed-numbers : (z : Sizes) (e : Expansion) (long : ℕ) → answer_for d table ≡ Mixed z e
+      → long ≡ length (listing z.class z.family z.n z.m z.k e)
+      → numbers e.products e.literals long ≡ listing_numbers (answer_listing d table)
+  mixed-numbers z e long h counted =
+      let found = mixed-found d table z e h in
+      let s : Accepted (mixed_design z) table = subst (λ (x : Design). Accepted x table) found.0 a in
+      let bytes = table-bytes z.n z.m table (table-sized (mixed_design z) s.sized) s.table in
+      let minimal = answer_expansion-is z.class z.family z.n z.k (at table) s.sized.inputs.1 s.sized.mixed.1 bytes in
+      let least : LeastCost z.n z.family (mixed_design z).kind (at table) e.products e.literals =
+      rw found.1 (minimal-least z.class z.family z.n z.k (at table) s.sized.mixed.0 _ _ _ _ _ _ _ minimal) in
+      least-numbers _ _ long
+      (subst (λ (x : Design). LeastCost x.n x.family x.kind (at table) e.products e.literals) (sym found.0) least)
+      (counted ∙ ap length (mixed-written d table a z e h).1)
 
-pub kind-numbers : (n m : ℕ) (table : List ℕ) (e : KroneckerExpansion) (long : ℕ) → Accepted (kronecker_design n m) table
-    → e ≡ answer_kronecker n (at table) → long ≡ length (record_listing n m e)
-    → Given e.products e.literals long ≡ listing_numbers (answer_listing (kronecker_design n m) table)
-unfolding answer_listing
-kind-numbers n m table e long a found h =
-    least-numbers (kronecker_design n m) table a _ _ long
-    (rw found (kronecker-minimal-least n (at table) _ _ _ _ (answer_kronecker-is n (at table) a.sized.inputs.1)))
-    (h ∙ ap (λ (x : KroneckerExpansion). length (record_listing n m x)) found)
+  pub kind-numbers : (n m : ℕ) (e : KroneckerExpansion) (long : ℕ) → answer_for d table ≡ Kronecker n m e
+      → long ≡ length (record_listing n m e)
+      → numbers e.products e.literals long ≡ listing_numbers (answer_listing d table)
+  kind-numbers n m e long h counted =
+      let found = kronecker-found d table n m e a.sized h in
+      let s : Accepted (kronecker_design n m) table = subst (λ (x : Design). Accepted x table) found.0 a in
+      let least : LeastCost n One kind.Kronecker (at table) e.products e.literals =
+      rw found.1 (kronecker-minimal-least n (at table) _ _ _ _ (answer_kronecker-is n (at table) s.sized.inputs.1)) in
+      least-numbers _ _ long
+      (subst (λ (x : Design). LeastCost x.n x.family x.kind (at table) e.products e.literals) (sym found.0) least)
+      (counted ∙ ap length (kind-written d table a n m e h).1)

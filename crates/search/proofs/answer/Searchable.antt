@@ -4,14 +4,13 @@ use mathlib.Core.Bool.{true}
 use mathlib.Core.List.{List}
 use Prim.Native.Nat.{ℕ, ◌^◌, ◌<◌}
 use native.Mathlib.Omega.{arith}
-use borrow.Author.Tests.{eqb-true}
 use lib.Dec.{T}
 use lib.ListN.{length}
 use lib.Pow.{pow_mono}
 use Rattle.numbers.specs.Bytes.{at, all_below}
 use Rattle.numbers.specs.Refusals.{sizes_refusal, is_table, Sized}
 use Rattle.numbers.proofs.Tests.{both_left, both_right}
-use Rattle.numbers.proofs.refusals.Judging.{sizes-none, sizes-accepted}
+use Rattle.numbers.proofs.refusals.Judging.{ok_passed, sizes-none, sizes-accepted}
 use Rattle.numbers.proofs.refusals.Outputs.{below-from}
 use Rattle.numbers.proofs.refusals.IsTable.{table_long, table_below, table-from}
 use Rattle.expansions.specs.declared.kinds.Class.{Class}
@@ -33,7 +32,7 @@ module _ (C : Class) (n m k : ℕ) (table : List ℕ) (e : searchable C n m k ta
 
   sized : Sized n m (most_mixed C) k
   unfolding searchable
-  sized = sizes-none n m (most_mixed C) k (eqb-true (sizes_refusal n m (most_mixed C) k) 0 (both_right (is_table n m table) _ e))
+  sized = sizes-none n m (most_mixed C) k (ok_passed (sizes_refusal n m (most_mixed C) k) (both_right (is_table n m table) _ e))
 
   pub allowed-sizes : (F : Family) → Limits (record { n = n; class = C; k = k; family = F })
   allowed-sizes F = record { inputs = sized.inputs.1; mixed = sized.mixed.0; within = sized.mixed.1 }

@@ -1,5 +1,5 @@
 -- The record of the answer as a function, and what the search hands up. What it hands up is said in words by `Found`; no promise rests on this file.
-use Rattle.std.specs.Prelude.{Bool, ◌&&◌, cond, List, ℕ, eqb}
+use Rattle.std.specs.Prelude.{Bool, ◌&&◌, cond, List, ℕ, is_ok}
 use Rattle.numbers.specs.Bytes.{at, tabulate}
 use Rattle.numbers.specs.Refusals.{sizes_refusal, is_table}
 use Rattle.expansions.specs.declared.kinds.Class.{Class}
@@ -26,7 +26,7 @@ answer_expansion C F n k f =
 
 -- the bytes are a table of n inputs and m outputs, and k is none that the documents refuse beside them
 unfoldable pub searchable : Class → (n m k : ℕ) → List ℕ → Bool
-searchable C n m k table = is_table n m table && eqb (sizes_refusal n m (most_mixed C) k) 0
+searchable C n m k table = is_table n m table && is_ok (sizes_refusal n m (most_mixed C) k)
 
 -- what the search hands up: the answer's record, and the empty record where there is no such table
 unfoldable pub searched : Class → Family → (n m k : ℕ) → List ℕ → Expansion

@@ -1,10 +1,11 @@
 -- The meaning of a text by its first line, which is the bytes up to `to`, where the first byte 10 or the end of the text is.
-use mathlib.Core.List.{List}
-use mathlib.Core.Path.{◌≡◌}
+use mathlib.Core.List.{List, []}
+use mathlib.Core.Path.{◌≡◌, sym, ◌∙◌}
 use Prim.Native.Nat.{ℕ, ◌+◌, ◌<◌, ◌≤◌}
 use native.Mathlib.Nat.{zero-add}
 use native.Mathlib.Omega.{arith}
 use lib.ListN.{length, take, drop}
+use lib.Seq.{take_all}
 use Rattle.listings.specs.Parts.{parts}
 use Rattle.listings.specs.Inner.Stops.{stop}
 use Rattle.listings.proofs.Parts.{first-take, others-last, others-next}
@@ -17,9 +18,12 @@ module _ (s : List ℕ) (to : ℕ) (e : to ≡ stop 10 s 0) where
   first_part : take to s ≡ (parts 10 s).first
   first_part = rw (e, zero-add) (first-take 10 s)
 
-  pub text-unfinished : length s ≤ to → reading s ≡ refused (unfinished (take to s)) 1
+  pub text-unfinished : length s ≤ to → reading s ≡ refused (unfinished s) 1
   unfolding reading all_lines
-  text-unfinished h = rw (first_part, others-last 10 s 0 (omega arith))
+  text-unfinished h =
+      let whole : (parts 10 s).first ≡ s = sym first_part ∙ take_all to s h in
+      let last : (parts 10 (drop 0 s)).others ≡ [] = others-last 10 s 0 (omega arith) in
+      rw (whole, last)
 
   -- what follows a first line that gives a design
   abbrev pub lines_after : Design → Reading

@@ -1,7 +1,7 @@
 -- Demand 3 of the bytes that the text call writes: the listing of the answer is what `IsListing` says (`answer-listing`), and the text call
 -- leaves it at the front of the buffer (`compile-meaning`).
 use mathlib.Core.Path.{◌≡◌, refl, sym, ap, ap₂, subst, ◌∙◌}
-use mathlib.Core.Bool.{Bool, true, false, cond}
+use mathlib.Core.Bool.{Bool, true, false, cond, false≢true}
 use mathlib.Core.List.{List, ◌++◌}
 use Prim.Native.Nat.{ℕ, ◌≤◌}
 use native.Mathlib.Omega.{arith}
@@ -9,9 +9,14 @@ use borrow.Author.Tests.{le-leb, lt-leb}
 use lib.Dec.{leb}
 use lib.ListN.{length, take, drop}
 use lib.Seq.{take-append_seam}
+use Rattle.std.specs.Prelude.{Result, Ok, Err, is_ok}
 use Rattle.numbers.specs.Bytes.{at}
+use Rattle.numbers.specs.declared.refusals.Refusal.TheVariants.{OutputRoom}
+use Rattle.numbers.specs.declared.refusals.Refused.{Refused}
+use Rattle.numbers.specs.Refusals.{number_of, declined}
 use Rattle.search.specs.Inner.Answer.{answer_expansion}
 use Rattle.kronecker.specs.Inner.Answer.{answer_kronecker}
+use Rattle.kronecker.specs.Letters.{letters_in}
 use Rattle.search.proofs.expansion.Answer.{answer_expansion-is, expansion-coefficients-lt, expansion-inverted-lt}
 use Rattle.expansions.specs.declared.families.Family.{Family}
 use Rattle.expansions.specs.declared.families.Family.TheVariants.{One, Two}
@@ -20,10 +25,6 @@ use Rattle.expansions.specs.declared.kinds.Kind.TheVariants.{Mixed, Kronecker}
 use Rattle.kronecker.proofs.expansion.Answer.{answer_kronecker-is, answer_kronecker-literals-le, kronecker-coefficients-lt}
 use Rattle.table_texts.specs.declared.sizes.Design.{Design}
 use Rattle.table_texts.specs.Design.{KindSized, KindFor}
-use Rattle.table_texts.specs.declared.read.ReadAnswer.{ReadAnswer}
-use Rattle.table_texts.specs.declared.read.ReadAnswer.TheVariants as answer
-use Rattle.text.specs.declared.compile.Compiled.{Compiled}
-use Rattle.text.specs.declared.compile.Compiled.TheVariants.{Written, Refused}
 use Rattle.table_texts.specs.Accepted.{Accepted}
 use Rattle.table_texts.specs.Inner.Reading.{Reading, given, refused, reading, stands_for}
 use Rattle.text.specs.Compile.{Chosen, Compile}
@@ -82,8 +83,8 @@ answer-chosen d table a = go d.family d.kind a.sized.mixed a.sized.family where
   go One Kronecker s _ =
       let minimal = answer_kronecker-is d.n (at table) a.sized.inputs.1 in
       let e = answer_kronecker d.n (at table) in
-      kronecker (at e.letters) (at e.coefficients) minimal.answer
-      (ap₂ (λ (p l : ℕ). kronecker_listing d.n d.m (at e.letters) (at e.coefficients) p l) minimal.products_counted minimal.literals_counted)
+      kronecker (letters_in e.letters) (at e.coefficients) minimal.answer
+      (ap₂ (λ (p l : ℕ). kronecker_listing d.n d.m (letters_in e.letters) (at e.coefficients) p l) minimal.products_counted minimal.literals_counted)
   go Two Kronecker s none = absurd none
 
 -- the only one: so the function that finds the answer adds nothing to the documents' words
@@ -109,8 +110,11 @@ listing-within d table a = go d.kind a.sized.mixed where
 
 -- ---- the text call
 
+pub written-refused : {A : Type 0} {w : A} {e : Refused} → Ok w ≡ Err e → ⊥
+written-refused e = false≢true (ap is_ok (sym e))
+
 -- where the text is accepted: what it wrote is the listing, and it stands at the front of the buffer
-pub written-listing : (z : Design) (table before after : List ℕ) (written : ℕ) → Written written ≡ compiled (given z table) (length before)
+pub written-listing : (z : Design) (table before after : List ℕ) (written : ℕ) → Ok written ≡ compiled (given z table) (length before)
     → after ≡ buffer_after (given z table) before → take written after ≡ answer_listing z table
 unfolding compiled buffer_after
 written-listing z table before after written ew ea = go (leb (length (answer_listing z table)) (length before)) ew ea
@@ -118,12 +122,12 @@ written-listing z table before after written ew ea = go (leb (length (answer_lis
     l : List ℕ
     l = answer_listing z table
 
-    go : (b : Bool) → Written written ≡ cond b (Written (length l)) (Refused 10 0) → after ≡ cond b (l ++ drop (length l) before) before → take written after ≡ l
+    go : (b : Bool) → Ok written ≡ cond b (Ok (length l)) (Err (declined OutputRoom 0)) → after ≡ cond b (l ++ drop (length l) before) before → take written after ≡ l
     go true ew ea = let same : written ≡ length l = cc in rw (same, ea) (take-append_seam l (drop (length l) before))
-    go false ew ea = let none : ◌≡◌ {A = ℕ} 0 1 = cc in absurd (omega arith)
+    go false ew ea = absurd (written-refused ew)
 
 -- an accepted text: what is answered and left, by the length of the listing
-given-chosen : (d : Design) (table before after : List ℕ) (r : Compiled) → Accepted d table → r ≡ compiled (given d table) (length before)
+given-chosen : (d : Design) (table before after : List ℕ) (r : Result ℕ Refused) → Accepted d table → r ≡ compiled (given d table) (length before)
     → after ≡ buffer_after (given d table) before → Chosen d table before after r
 unfolding compiled buffer_after
 given-chosen d table before after r a er ea =
@@ -135,40 +139,39 @@ given-chosen d table before after r a er ea =
       short = λ h. er ∙ rw (lt-leb (length l) (length before) h);
     }
 
-pub written-refused : {w number line : ℕ} → Written w ≡ Refused number line → ⊥
-written-refused e = let none : ◌≡◌ {A = ℕ} 0 1 = cc in omega arith
-
 -- a buffer that holds every listing is not short, and no text is refused by 10
-given-room : (text : List ℕ) (room line : ℕ) → 5919 ≤ room → compiled (reading text) room ≡ Refused 10 line → ⊥
+given-room : (text : List ℕ) (room line : ℕ) → 5919 ≤ room → compiled (reading text) room ≡ Err (declined OutputRoom line) → ⊥
 unfolding compiled
 given-room text room line long e = go (reading text) refl e where
-  go : (x : Reading) → reading text ≡ x → compiled x room ≡ Refused 10 line → ⊥
+  go : (x : Reading) → reading text ≡ x → compiled x room ≡ Err (declined OutputRoom line) → ⊥
   go (given d table) g e =
       let fits = le-leb (length (answer_listing d table)) room (omega (arith, listing-within d table (reading-accepted text d table g))) in
       written-refused (rw fits at e)
-  go (refused number l) g e = let same : number ≡ 10 = cc in absurd (omega (arith, same, (reading-refused text number l g).0.1))
+  go (refused why l) g e =
+      let same : declined why l ≡ declined OutputRoom line = cc in
+      absurd (omega (arith, ap (λ (x : Refused). number_of x.refusal) same, (reading-refused text why l g).0.1))
 
 -- a refusal leaves the buffer as it was
-refused-kept : (x : Reading) (before : List ℕ) (number line : ℕ) → compiled x (length before) ≡ Refused number line → buffer_after x before ≡ before
+refused-kept : (x : Reading) (before : List ℕ) (e : Refused) → compiled x (length before) ≡ Err e → buffer_after x before ≡ before
 unfolding compiled buffer_after
-refused-kept (given d table) before number line e = go (leb (length (answer_listing d table)) (length before)) e where
+refused-kept (given d table) before e h = go (leb (length (answer_listing d table)) (length before)) h where
   l : List ℕ
   l = answer_listing d table
 
-  go : (b : Bool) → cond b (Written (length l)) (Refused 10 0) ≡ Refused number line → cond b (l ++ drop (length l) before) before ≡ before
-  go true e = absurd (written-refused e)
-  go false e = refl
-refused-kept (refused number' line') before number line e = refl
+  go : (b : Bool) → cond b (Ok (length l)) (Err (declined OutputRoom 0)) ≡ Err e → cond b (l ++ drop (length l) before) before ≡ before
+  go true h = absurd (written-refused h)
+  go false h = refl
+refused-kept (refused why line) before e h = refl
 
-pub compile-meaning : (text before after : List ℕ) (r : Compiled) → r ≡ compiled (reading text) (length before) → after ≡ buffer_after (reading text) before
+pub compile-meaning : (text before after : List ℕ) (r : Result ℕ Refused) → r ≡ compiled (reading text) (length before) → after ≡ buffer_after (reading text) before
     → Compile text before after r
 unfolding compiled
 compile-meaning text before after r er ea =
     record {
       answer = er;
       bytes = ea;
-      refusals = text-refusals text (λ number line. r ≡ Refused number line)
-          (λ number line e. er ∙ ap (λ (x : Reading). compiled x (length before)) e);
+      refusals = text-refusals text (λ why line. r ≡ Err (declined why line))
+          (λ why line e. er ∙ ap (λ (x : Reading). compiled x (length before)) e);
       chosen = λ d table means.
           let e = (accepted-exactly text d table).1 means in
           given-chosen d table before after r means.0 (er ∙ ap (λ (x : Reading). compiled x (length before)) e) (ea ∙ ap (λ (x : Reading). buffer_after x before) e);
@@ -177,24 +180,24 @@ compile-meaning text before after r er ea =
           let listed = written-listing d table before after written (sym w ∙ er ∙ ap (λ (x : Reading). compiled x (length before)) e) (ea ∙ ap (λ (x : Reading). buffer_after x before) e) in
           subst (IsListing d.n d.family d.kind (at table)) (sym listed) (answer-listing d table means.0);
       room = λ h line e. given-room text (length before) line h (sym er ∙ e);
-      kept = λ number line e. ea ∙ refused-kept (reading text) before number line (sym er ∙ e);
+      kept = λ e h. ea ∙ refused-kept (reading text) before e (sym er ∙ h);
     }
 
 -- what a text means, and demand 3 of what is written for it
-pub compile-listed : (text before after : List ℕ) (written : ℕ) (d : Design) (table : List ℕ) → Compile text before after (Written written)
+pub compile-listed : (text before after : List ℕ) (written : ℕ) (d : Design) (table : List ℕ) → Compile text before after (Ok written)
     → reading text ≡ given d table → IsListing d.n d.family d.kind (at table) (take written after)
 compile-listed text before after written d table c e = c.meaning d table ((accepted-exactly text d table).0 e) written refl
 
 -- by the reading call's answer
 
-pub compile-given : (text table before after : List ℕ) (z : Design) (r : Compiled) → reading text ≡ given z table
+pub compile-given : (text table before after : List ℕ) (z : Design) (r : Result ℕ Refused) → reading text ≡ given z table
     → r ≡ compiled (given z table) (length before) → after ≡ buffer_after (given z table) before → Compile text before after r
 compile-given text table before after z r e er ea =
     compile-meaning text before after r (er ∙ ap (λ (x : Reading). compiled x (length before)) (sym e)) (ea ∙ ap (λ (x : Reading). buffer_after x before) (sym e))
 
-pub compile-refused : (text table before : List ℕ) (r : ReadAnswer) (number line : ℕ) → r ≡ answer.Refused number line → stands_for r table ≡ reading text
-    → Compile text before before (Refused number line)
+pub compile-refused : (text table before : List ℕ) (r : Result Design Refused) (e : Refused) → r ≡ Err e → stands_for r table ≡ reading text
+    → Compile text before before (Err e)
 unfolding compiled buffer_after
-compile-refused text table before r number line e s =
-    let read = reads-refused r table number line (reading text) e s in
-    compile-meaning text before before (Refused number line) (ap (λ (x : Reading). compiled x (length before)) (sym read)) (ap (λ (x : Reading). buffer_after x before) (sym read))
+compile-refused text table before r e h s =
+    let read = reads-refused r table e (reading text) h s in
+    compile-meaning text before before (Err e) (ap (λ (x : Reading). compiled x (length before)) (sym read)) (ap (λ (x : Reading). buffer_after x before) (sym read))

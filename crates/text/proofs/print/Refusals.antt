@@ -5,6 +5,8 @@ use Prim.Native.Nat.{ℕ, ◌+◌, ◌*◌, ◌<◌, ◌≤◌}
 use native.Mathlib.Omega.{arith}
 use lib.Dec.{lit<}
 use lib.ListN.{length, length-append, length-take}
+use Rattle.numbers.specs.declared.refusals.Refusal.{Refusal}
+use Rattle.numbers.specs.Refusals.{number_of}
 use Rattle.listings.specs.Parts.{bytes}
 use Rattle.listings.specs.Listing.{tabbed, line, decimal}
 use Rattle.listings.specs.Meaning.{first_numbers}
@@ -26,16 +28,17 @@ pub line-says : (word : List ℕ) (xs : List ℕ) → Plain word → Small xs �
 line-says word xs plain small =
     ap first_numbers (sym (append-nil (line word (map decimal xs)))) ∙ heading-numbers word (map decimal xs) [] plain (plain-numbers xs) ∙ numbers-said xs small
 
-pub refused-line-says : (number l : ℕ) → number < 10000 → l < 10000 → first_numbers (refused_line number l) ≡ number ∷ l ∷ []
+pub refused-line-says : (why : Refusal) (l : ℕ) → number_of why < 10000 → l < 10000 → first_numbers (refused_line why l) ≡ number_of why ∷ l ∷ []
 unfolding refused_line
-refused-line-says number l hn hl = line-says (bytes "refused") (number ∷ l ∷ []) plain-refused (hn, (hl, tt))
+refused-line-says why l hn hl = line-says (bytes "refused") (number_of why ∷ l ∷ []) plain-refused (hn, (hl, tt))
 
 -- what is judged has at most 8,192 bytes, so the line that is printed for its refusal says the number and the line
-pub refusal-said : (input : List ℕ) (number l : ℕ) → reading (judged input) ≡ refused number l → first_numbers (refused_line number l) ≡ number ∷ l ∷ []
-refusal-said input number l e =
-    let bounds = reading-refused (judged input) number l e in
+pub refusal-said : (input : List ℕ) (why : Refusal) (l : ℕ) → reading (judged input) ≡ refused why l
+    → first_numbers (refused_line why l) ≡ number_of why ∷ l ∷ []
+refusal-said input why l e =
+    let bounds = reading-refused (judged input) why l e in
     let few : length (judged input) ≤ 8192 = omega (arith, length-take 8192 input) in
-    refused-line-says number l (omega (arith, bounds.0.1)) (omega (arith, bounds.1.1))
+    refused-line-says why l (omega (arith, bounds.0.1)) (omega (arith, bounds.1.1))
 
 -- ---- how long it is
 
@@ -47,6 +50,6 @@ line-le word xs =
     let whole : length (line word (map decimal xs)) ≡ length (word ++ fields) + 1 = length-append (word ++ fields) (10 ∷ []) in
     omega (arith, whole, length-append word fields, length-numbers xs, digits_of-le xs)
 
-pub refused-line-le : (number l : ℕ) → length (refused_line number l) ≤ 18
+pub refused-line-le : (why : Refusal) (l : ℕ) → length (refused_line why l) ≤ 18
 unfolding refused_line bytes
-refused-line-le number l = line-le (bytes "refused") (number ∷ l ∷ [])
+refused-line-le why l = line-le (bytes "refused") (number_of why ∷ l ∷ [])

@@ -7,7 +7,7 @@ use Rattle.text.specs.Judged.{judged, refused_line}
 -- "the listing, or the line `refused`, number, line", by what the text means
 unfoldable pub printed_for : Reading → List ℕ
 printed_for (given z table) = answer_listing z table
-printed_for (refused number l) = refused_line number l
+printed_for (refused why l) = refused_line why l
 
 -- what is printed for an input
 unfoldable pub printed : List ℕ → List ℕ

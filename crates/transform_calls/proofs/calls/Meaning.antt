@@ -1,17 +1,20 @@
 -- What the calls promise, from the transforms' bytes: `forward-done`, `backward-done`, and the refusals.
-use mathlib.Core.Path.{◌≡◌, refl, sym, ap, ◌∙◌}
+use mathlib.Core.Path.{◌≡◌, sym, ap, ◌∙◌}
 use mathlib.Core.List.{List}
-use Prim.Native.Nat.{ℕ, zero, suc, ◌+◌, ◌^◌, ◌<◌}
+use Prim.Native.Nat.{ℕ, ◌+◌, ◌^◌, ◌<◌}
 use native.Mathlib.Nat.{zero-add}
 use native.Mathlib.Omega.{arith}
 use lib.ListN.{length}
 use lib.Pow.{pow_pos}
+use Rattle.std.specs.Prelude.{Result, Ok, Err}
 use Rattle.numbers.specs.Bytes.{at, tabulate}
+use Rattle.numbers.specs.Refusals.{declined}
+use Rattle.numbers.specs.declared.refusals.Refusal.{Refusal}
+use Rattle.numbers.specs.declared.refusals.Refused.{Refused}
 use Rattle.algebra.specs.Terms.{value}
 use Rattle.algebra.specs.Coefficients.{coefficient}
 use Rattle.algebra.specs.Transform.{coefficient_bytes, value_bytes}
 use Rattle.transform_calls.specs.Calls.{transform_refusal, transformed, Forward, Backward}
-use Rattle.transform_calls.specs.declared.calls.Transformed.TheVariants.{Done, Refused}
 use Rattle.numbers.proofs.Bytes.{at-tabulate, tabulate-ext}
 use Rattle.algebra.proofs.Value.{value-ext}
 use Rattle.algebra.proofs.Coefficients.{value-coefficient, coefficient-value, coefficient-ext, coefficient-lt, value-lt}
@@ -19,7 +22,7 @@ use Rattle.algebra.proofs.Lanes.{Fitting, fits-fitting, lanes-one}
 use Rattle.transform_calls.proofs.calls.Judging.{Accepted, refusal-none}
 use Rattle.transform_calls.proofs.calls.Words.{judged-words}
 use Rattle.numbers.proofs.refusals.Outputs.{below_at}
-use Rattle.numbers.proofs.refusals.Judging.{kept}
+use Rattle.numbers.proofs.refusals.Judging.{Passed, kept, refused_accepted}
 
 -- ---- the transforms' bytes, where the call is carried out
 
@@ -41,11 +44,10 @@ values_one n m w coefficients before a = rw (fits-fitting 0 n w (length coeffici
 
 -- ---- carried out
 
-pub forward-done : (n m w : ℕ) (table before after : List ℕ) → transform_refusal n m w table (length before) ≡ 0 → after ≡ coefficient_bytes 0 n w table before
-    → Forward n m w table before after Done
-unfolding transformed
+pub forward-done : (n m w : ℕ) (table before after : List ℕ) → Passed (transform_refusal n m w table (length before)) → after ≡ coefficient_bytes 0 n w table before
+    → Forward n m w table before after (Ok tt)
 forward-done n m w table before after e b =
-    let answered : Done ≡ transformed (transform_refusal n m w table (length before)) = rw e in
+    let answered : Ok tt ≡ transformed (transform_refusal n m w table (length before)) = rw e in
     record {
       answer = answered;
       judged = judged-words _ _ _ _ _ _ answered;
@@ -63,11 +65,10 @@ forward-done n m w table before after e b =
     each : (t : ℕ) → t < 2 ^ n → at after t ≡ coefficient n w (at table) t
     each t h = ap (λ (x : List ℕ). at x t) filled ∙ at-tabulate (2 ^ n) (coefficient n w (at table)) t h
 
-pub backward-done : (n m w : ℕ) (coefficients before after : List ℕ) → transform_refusal n m w coefficients (length before) ≡ 0 → after ≡ value_bytes n w coefficients before
-    → Backward n m w coefficients before after Done
-unfolding transformed
+pub backward-done : (n m w : ℕ) (coefficients before after : List ℕ) → Passed (transform_refusal n m w coefficients (length before)) → after ≡ value_bytes n w coefficients before
+    → Backward n m w coefficients before after (Ok tt)
 backward-done n m w coefficients before after e b =
-    let answered : Done ≡ transformed (transform_refusal n m w coefficients (length before)) = rw e in
+    let answered : Ok tt ≡ transformed (transform_refusal n m w coefficients (length before)) = rw e in
     record {
       answer = answered;
       judged = judged-words _ _ _ _ _ _ answered;
@@ -87,33 +88,27 @@ backward-done n m w coefficients before after e b =
 
 -- ---- declined
 
-answered-refused : (x : ℕ) → (x ≡ 0 → ⊥) → transformed x ≡ Refused x 0
-unfolding transformed
-answered-refused zero h = absurd (h refl)
-answered-refused (suc x) h = refl
+module _ (n m w : ℕ) (given before : List ℕ) (why : Refusal) (r : Result (Unit {0}) Refused) (e : transform_refusal n m w given (length before) ≡ Err why)
+    (told : r ≡ Err (declined why 0)) where
+  answered-refused : r ≡ transformed (transform_refusal n m w given (length before))
+  answered-refused = rw (told, e)
 
-refused-not-done : {A : Type 0} (x : ℕ) → Refused x 0 ≡ Done → A
-refused-not-done x e = let z : ◌≡◌ {A = ℕ} 0 1 = cc in absurd (omega arith)
+  pub forward-refused : Forward n m w given before before r
+  forward-refused =
+      record {
+        answer = answered-refused;
+        judged = judged-words _ _ _ _ _ _ answered-refused;
+        bytes = kept _ _ before why e;
+        meaning = λ done. refused_accepted r _ _ told done;
+        outputs = λ done. refused_accepted r _ _ told done;
+      }
 
-pub forward-refused : (n m w : ℕ) (table before : List ℕ) (x : ℕ) → x ≡ transform_refusal n m w table (length before) → (x ≡ 0 → ⊥) → Forward n m w table before before (Refused x 0)
-forward-refused n m w table before x e h =
-    let answered : Refused x 0 ≡ transformed (transform_refusal n m w table (length before)) = rw (← e) (sym (answered-refused x h)) in
-    record {
-      answer = answered;
-      judged = judged-words _ _ _ _ _ _ answered;
-      bytes = rw (← e) (kept x _ before h);
-      meaning = λ r. refused-not-done x r;
-      outputs = λ r. refused-not-done x r;
-    }
-
-pub backward-refused : (n m w : ℕ) (coefficients before : List ℕ) (x : ℕ) → x ≡ transform_refusal n m w coefficients (length before)
-    → (x ≡ 0 → ⊥) → Backward n m w coefficients before before (Refused x 0)
-backward-refused n m w coefficients before x e h =
-    let answered : Refused x 0 ≡ transformed (transform_refusal n m w coefficients (length before)) = rw (← e) (sym (answered-refused x h)) in
-    record {
-      answer = answered;
-      judged = judged-words _ _ _ _ _ _ answered;
-      bytes = rw (← e) (kept x _ before h);
-      meaning = λ r. refused-not-done x r;
-      outputs = λ r. refused-not-done x r;
-    }
+  pub backward-refused : Backward n m w given before before r
+  backward-refused =
+      record {
+        answer = answered-refused;
+        judged = judged-words _ _ _ _ _ _ answered-refused;
+        bytes = kept _ _ before why e;
+        meaning = λ done. refused_accepted r _ _ told done;
+        outputs = λ done. refused_accepted r _ _ told done;
+      }

@@ -1,30 +1,23 @@
--- `turn_inputs` meets its contract: after s turns the inputs below s that are bits of `changed` have been turned over.
-use Prim.Native.Nat.{◌+◌}
-use native.Mathlib.Omega.{arith}
+-- `turn_inputs` meets its contract: after i turns the inputs below i that are bits of `changed` have been turned over.
+use mathlib.Core.Path.{sym, ◌∙◌}
+use Prim.Native.Nat.{◌/◌, ◌^◌}
+use lib.Bits.{and_mask}
 use Rattle.algebra.proofs.HalfSteps.{where_below}
-use Rattle.algebra.proofs.transform.Inputs.{stepped-none, stepped-long, stepped-ready, stepped-more, stepped-all, turned-digit}
+use Rattle.algebra.proofs.transform.Inputs.{stepped-none, stepped-ready, stepped-more, turned_none, turned-one}
 use Rattle.algebra.proofs.transform.turn_inputs.Goals as goal
+use Rattle.algebra.proofs.transform.turn_inputs.Goals.{then-turned, else-turned}
 
-pub loop-s-init : goal.loop-s-init
-loop-s-init c = stepped-none _ _ _ _ c.requires
+pub loop-i-init : goal.loop-i-init
+loop-i-init c = stepped-none _ _ _ _ c.requires
 
-pub overflow_shr-changed : goal.overflow_shr-changed
-overflow_shr-changed c = let f = c.loop-s.invariant in omega (arith, f.inputs)
+pub half_step-requires : goal.half_step-requires
+half_step-requires c = stepped-ready _ _ _ _ _ _ c.loop-i-test.true c.loop-i.invariant
 
-pub overflow_add-low : goal.overflow_add-low
-overflow_add-low c = let f = c.loop-s.invariant in omega (arith, f.lows, f.inputs)
-
-pub turn_where-requires : goal.turn_where-requires
-turn_where-requires c = stepped-ready _ _ _ _ _ _ c.loop-s-test.true c.loop-s.invariant
-
-pub loop-s-preserved : goal.loop-s-preserved
-loop-s-preserved c =
-    let a = c.args in
-    let e = turned-digit a.changed c.loop-s.s (a.low + c.loop-s.s) c.loop-s.bytes _ c.turn_where.ensures in
-    stepped-more _ _ _ _ _ _ _ c.loop-s-test.true (where_below _ _ _) c.loop-s.invariant e
-
-pub shape_of-bytes : goal.shape_of-bytes
-shape_of-bytes c = stepped-long _ _ _ _ _ _ c.loop-s.invariant
-
-pub returns : goal.returns
-returns c = stepped-all _ _ _ _ _ _ c.loop-s-test.false c.loop-s.invariant
+pub loop-i-preserved : goal.loop-i-preserved
+loop-i-preserved c =
+    let digit = and_mask (c.args.changed / 2 ^ c.loop-i.i) 1 in
+    stepped-more _ _ _ _ _ _ _ c.loop-i-test.true (where_below _ _ _) c.loop-i.invariant
+    (elim c.if-turned.branch [
+      | then-turned w ↦ w.bytes-is ∙ turned-one _ _ _ _ (λ e. w.if-turned.true (digit ∙ e)) w.half_step.ensures
+      | else-turned w ↦ w.bytes-is ∙ turned_none _ _ _ (sym digit ∙ w.if-turned.false)
+    ])

@@ -1,31 +1,18 @@
--- The loop holds the entries before start + q, side by side in a word.
-use borrow.Author.Rules.{rules}
+-- The eight entries are copied out, and the library joins them to their word.
 use mathlib.Core.Path.{◌≡◌, ap, ◌∙◌}
-use Prim.Native.Nat.{ℕ, ◌+◌}
+use mathlib.Core.List.{List}
+use Prim.Native.Nat.{ℕ, ◌+◌, ◌-◌, ◌<◌}
 use native.Mathlib.Omega.{arith}
+use lib.ListN.{take, drop}
+use Rattle.std.proofs.lemmas.List.{get_or-take, get_or-drop}
 use Rattle.numbers.specs.Bytes.{at}
-use Rattle.numbers.specs.Words.{word}
-use Rattle.numbers.proofs.Words.{word_none, word_more, word_fits}
+use Rattle.numbers.proofs.Words.{word-ext}
+use Rattle.numbers.proofs.WordBytes.{word-from_le_bytes}
 use Rattle.blocks.proofs.rows.row_at.Goals as goal
 
-pub loop-q-init : goal.loop-q-init
-loop-q-init c = (omega arith, word_none _)
-
-pub overflow_add-word : goal.overflow_add-word
-overflow_add-word c =
-    let l = c.loop-q in
-    let pre = c.requires in
-    omega (arith, word_fits l.q _ _ _ c.loop-q-test.true pre.2 l.invariant.1 c.wide.ensures.0)
-
-pub loop-q-preserved : goal.loop-q-preserved
-loop-q-preserved c =
-    let l = c.loop-q in
-    let pre = c.requires in
-    (search rules, word_more l.q _ _ _ c.loop-q-test.true pre.2 l.invariant.1 c.wide.ensures.0)
+read : (row entries : List ℕ) (start q : ℕ) → row ≡ take (start + 8 - start) (drop start entries) → q < 8 → at row q ≡ at entries (start + q)
+read row entries start q e h = ap (λ (xs : List ℕ). at xs q) e ∙ get_or-take _ _ q 0 (omega arith) ∙ get_or-drop start entries q 0
 
 pub returns : goal.returns
 returns c =
-    let l = c.loop-q in
-    let a = c.args in
-    let e : l.q ≡ 8 = omega (arith, l.invariant.0, c.loop-q-test.false) in
-    l.invariant.1 ∙ ap (λ (x : ℕ). word x (λ q. at a.entries.now (a.start + q))) e
+    c.from_le_bytes.ensures ∙ word-from_le_bytes _ ∙ word-ext 8 _ _ (λ q h. read _ _ _ q c.copy_from_slice.ensures.after h)

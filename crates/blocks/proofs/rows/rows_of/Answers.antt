@@ -16,12 +16,7 @@ one-row : (rows : List ℕ) → ((g : ℕ) → g < 256 → at rows g ≡ word 8 
 one-row rows e zero g a b = ap (at rows) (zero-add g) ∙ e g b ∙ word-ext 8 _ _ (λ q l. ap (entry g) (sym (zero-add q)))
 one-row rows e (suc h) g a b = absurd (omega arith)
 
-pub returns-then-apart : goal.returns-then-apart
-returns-then-apart c =
-    let e = sym c.apart.ensures ∙ c.if-apart.true in
-    rw e c.own_rows.ensures
-
-pub returns : goal.returns
-returns c =
+pub returns-else-apart : goal.returns-else-apart
+returns-else-apart c =
     let e = sym c.apart.ensures ∙ c.if-apart.false in
     rw e (one-row c.block_rows.result c.block_rows.ensures)

@@ -1,31 +1,20 @@
 -- Where the terms of the block choose apart the first least is the lesser of those of the two halves.
 use mathlib.Core.Bool.{cond}
 use mathlib.Core.Path.{sym, ◌∙◌}
-use Prim.Native.Nat.{◌^◌, ◌<◌}
+use Prim.Native.Nat.{◌<◌}
 use lib.Dec.{lit<}
-use lib.Pow.{pow_pos}
 use Rattle.numbers.specs.Bytes.{at}
 use Rattle.expansions.specs.Classes.{apart}
 use Rattle.lanes.proofs.expand.Room.{few}
 use Rattle.charges.specs.Inner.Charges.{masked_sum}
-use Rattle.charges.proofs.cheapest.Used.{first-half, row_fits}
-use Rattle.charges.proofs.cheapest.Choices.{least_zero, least_lt}
+use Rattle.charges.proofs.cheapest.Used.{first-half}
+use Rattle.charges.proofs.cheapest.Choices.{choices-counted-some, choices-counted-le, least-counted, least_zero, least_lt}
 use Rattle.charges.proofs.cheapest.least_first.Goals as goal
 use Rattle.charges.proofs.cheapest.least_first.Goals.{Then-apart}
 
 -- and has sixteen choices
 second-half : (c : Then-apart) → let a = c.args.sizes in 1 < cond (apart a.class a.k) 2 1
 second-half c = rw (sym c.apart.ensures ∙ c.if-apart.true) (lit< tt)
-
-pub least_first_from-low-requires : goal.least_first_from-low-requires
-least_first_from-low-requires c =
-    let z = c.args.sizes in
-    (lit< tt, lit< tt, c.requires.rows.1, row_fits z.class z.k c.args.rows.now c.requires.rows.0 0 (first-half z.class z.k))
-
-pub least_first_from-high-requires : goal.least_first_from-high-requires
-least_first_from-high-requires c =
-    let z = c.args.sizes in
-    (lit< tt, lit< tt, c.requires.rows.1, row_fits z.class z.k c.args.rows.now c.requires.rows.0 1 (second-half (goal.at.least_first_from-high-requires c).Then-apart))
 
 pub lesser-requires : goal.lesser-requires
 lesser-requires c =
@@ -42,12 +31,12 @@ returns-then-apart c =
 
 pub least_first_from-requires : goal.least_first_from-requires
 least_first_from-requires c =
-    let z = c.args.sizes in
-    (lit< tt, few z c.requires.limits, c.requires.rows.1, row_fits z.class z.k c.args.rows.now c.requires.rows.0 0 (first-half z.class z.k))
+    let h = few c.args.sizes c.requires.limits in
+    (lit< tt, choices-counted-some c.args.sizes.k h, choices-counted-le c.args.sizes.k h, c.requires.rows.1)
 
 pub returns : goal.returns
 returns c =
     let z = c.args.sizes in
     let sums = masked_sum z.class z.k (at c.args.lanes.now) in
     rw (sym c.apart.ensures ∙ c.if-apart.false)
-    (least_zero (2 ^ z.k) (pow_pos z.k) sums _ (c.least_first_from.ensures z.class z.k c.requires.rows.0 (first-half z.class z.k)))
+    (least-counted z.k (few z c.requires.limits) sums _ (c.least_first_from.ensures z.class z.k c.requires.rows.0 (first-half z.class z.k)))

@@ -1,9 +1,7 @@
-use Rattle.numbers.specs.Words.{byte}
-use Rattle.charges.proofs.cheapest.Choices.{SumsTried, Shifted}
+use mathlib.Core.Bool.{not}
+use lib.Dec.{eqb}
+use Rattle.charges.proofs.cheapest.Choices.{Tried}
 use Rattle.charges.proofs.cheapest.least_sum.Given as goal
 
-abbrev pub invariant-loop-left : goal.invariant-loop-left
-invariant-loop-left l = SumsTried l.k 256 (λ φ. byte φ l.sums) l.count l.least l.left × Shifted l.sums l.count l.rest l.left
-
-abbrev pub decreases-loop-left : goal.decreases-loop-left
-decreases-loop-left l = l.left
+abbrev pub invariant-loop-choice : goal.invariant-loop-choice
+invariant-loop-choice g l = Tried (not (eqb g.row.MASKED 0)) l.sums l.masks l.least l.rest l.rest_masks l.choice

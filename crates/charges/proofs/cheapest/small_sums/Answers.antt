@@ -7,20 +7,17 @@ use Rattle.charges.proofs.cheapest.small_sums.Goals as goal
 pub loop-t-init : goal.loop-t-init
 loop-t-init c = summed-none _ (omega (arith, c.ranges.used))
 
-pub overflow_add-sums : goal.overflow_add-sums
-overflow_add-sums c = omega (arith, c.wide.ensures.1)
-
 pub overflow_mul-sums : goal.overflow_mul-sums
 unfolding literal_counts literal_count
-overflow_mul-sums c = omega (arith, summed-fits _ _ _ _ c.loop-t-test.true c.wide.ensures.0 c.loop-t.invariant)
+overflow_mul-sums c = omega (arith, summed-fits _ _ _ _ c.loop-t-test.true c.from.ensures c.loop-t.invariant)
 
 pub overflow_add-sums-in-loop-t : goal.overflow_add-sums-in-loop-t
 unfolding literal_counts literal_count
-overflow_add-sums-in-loop-t c = omega (arith, summed-fits _ _ _ _ c.loop-t-test.true c.wide.ensures.0 c.loop-t.invariant)
+overflow_add-sums-in-loop-t c = omega (arith, summed-fits _ _ _ _ c.loop-t-test.true c.from.ensures c.loop-t.invariant)
 
 pub loop-t-preserved : goal.loop-t-preserved
 unfolding literal_counts literal_count
-loop-t-preserved c = summed-more _ _ _ _ c.loop-t-test.true c.wide.ensures.0 c.loop-t.invariant
+loop-t-preserved c = summed-more _ _ _ _ c.loop-t-test.true c.from.ensures c.loop-t.invariant
 
 pub returns : goal.returns
 returns c = summed-all _ _ _ c.loop-t-test.false c.loop-t.invariant

@@ -19,4 +19,4 @@ returns-in-One c = rw c.in-One.is (refl, and_mask c.args.sum 12)
 pub returns-in-Two : goal.returns-in-Two
 returns-in-Two c =
     let low = and_mask c.args.sum 9 in
-    rw c.in-Two.is (low, rw (sym low) c.less.ensures)
+    rw c.in-Two.is (low, rw (sym low) c.saturating_sub.ensures)

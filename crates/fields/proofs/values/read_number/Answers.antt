@@ -1,54 +1,38 @@
--- `read_number` meets its contract. The invariant: the digits passed say `value`, below 10 ^ k, and the field says what the digits left say after it.
-use mathlib.Core.Bool.{true}
+-- `read_number` meets its contract. The invariant: the digits passed say `value`, below 10 ^ b-index, and the field says what the digits left say after it.
 use mathlib.Core.Path.{◌≡◌, sym, ◌∙◌}
-use Prim.Native.Nat.{zero-le}
 use native.Mathlib.Omega.{arith}
-use borrow.Author.Tests.{not-true, not-false}
 use lib.Dec.{lit<}
-use Rattle.fields.specs.Fields.{digit, number, well_formed}
+use Rattle.fields.specs.Fields.{digit, number}
 use Rattle.fields.proofs.Numbers.{digit_lt, digits_step, digits-wrong, digits-end, well_formed-le, ten-le, ten-more}
 use Rattle.fields.proofs.values.read_number.Goals as goal
 
-pub returns-then-not-well_formed : goal.returns-then-not-well_formed
+pub loop-b-init : goal.loop-b-init
 unfolding number
-returns-then-not-well_formed c = rw (← c.well_formed-2.ensures, not-true c.well_formed-2.result c.if-not-well_formed.true-raw)
-
-pub loop-k-init : goal.loop-k-init
-unfolding number
-loop-k-init c =
+loop-b-init c =
     let a = c.args in
-    let right : well_formed a.most a.field.now ≡ true = sym c.well_formed-2.ensures ∙ not-false _ c.if-not-well_formed.false-raw in
-    (zero-le, omega (arith, well_formed-le a.most a.field.now right), lit< tt, rw right)
-
-pub returns-in_default : goal.returns-in_default
-returns-in_default c =
-    let a = c.args in
-    let l = c.loop-k in
-    sym (l.invariant.3 ∙ digits-wrong a.field.now l.k l.value c.loop-k-test.true (sym c.digit.ensures ∙ c.in_default.is))
-
-pub overflow_mul-value : goal.overflow_mul-value
-overflow_mul-value c =
-    let l = c.loop-k in
-    omega (arith, ten-le l.k (omega arith))
+    let right = sym c.if-not-well_formed.ensures in
+    (omega (arith, well_formed-le a.most a.field.now right), lit< tt, rw right)
 
 pub overflow_add-value : goal.overflow_add-value
 overflow_add-value c =
-    let l = c.loop-k in
-    omega (arith, ten-le l.k (omega arith), digit_lt 10 _ _ (sym c.digit.ensures ∙ c.in-Is.is))
+    let l = c.loop-b in
+    omega (arith, ten-le l.b-index (omega arith), digit_lt 10 _ _ (sym c.in_ok-value.ensures))
 
-pub loop-k-preserved : goal.loop-k-preserved
-loop-k-preserved c =
-    let a = c.args in
-    let l = c.loop-k in
-    let says : digit 10 _ ≡ _ = sym c.digit.ensures ∙ c.in-Is.is in (
-      omega arith,
-      omega arith,
-      ten-more l.k l.value _ l.invariant.2 (digit_lt 10 _ _ says),
-      l.invariant.3 ∙ digits_step a.field.now l.k l.value _ c.loop-k-test.true says,
+pub returns-in_err-value : goal.returns-in_err-value
+returns-in_err-value c =
+    let l = c.loop-b in
+    c.from_residual.ensures ∙ sym (l.invariant.2 ∙ digits-wrong c.args.field.now l.b-index l.value c.loop-b-test.true (sym c.in_err-value.ensures))
+
+pub loop-b-preserved : goal.loop-b-preserved
+loop-b-preserved c =
+    let l = c.loop-b in
+    let says : digit 10 _ ≡ _ = sym c.in_ok-value.ensures in (
+      l.invariant.0,
+      ten-more l.b-index l.value _ l.invariant.1 (digit_lt 10 _ _ says),
+      l.invariant.2 ∙ digits_step c.args.field.now l.b-index l.value _ c.loop-b-test.true says,
     )
 
 pub returns : goal.returns
 returns c =
-    let a = c.args in
-    let l = c.loop-k in
-    sym (l.invariant.3 ∙ digits-end a.field.now l.k l.value c.loop-k-test.false)
+    let l = c.loop-b in
+    sym (l.invariant.2 ∙ digits-end c.args.field.now l.b-index l.value c.loop-b-test.false)

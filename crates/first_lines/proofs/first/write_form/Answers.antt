@@ -1,4 +1,5 @@
 -- `write_form` meets its contract: the word, the numbers before the field k, that field, the numbers after it and the line's end, one after the other.
+use mathlib.Core.Path.{ap}
 use Prim.Native.Nat.{◌+◌, ◌≤◌}
 use native.Mathlib.Omega.{arith}
 use lib.ListN.{length}
@@ -20,30 +21,30 @@ room s =
     let a = s.args in
     omega (arith, s.requires.counts_in_bounds, length-parts a.family a.sizes.now (mixed_field a.class a.k) a.counts.now)
 
-pub write_word-word-requires : goal.write_word-word-requires
-write_word-word-requires c = omega (arith, room (goal.at.write_word-word-requires c).Start)
+pub word-word-requires : goal.word-word-requires
+word-word-requires c = omega (arith, room (goal.at.word-word-requires c).Start, ap length c.form_word.ensures)
 
 pub write_numbers-before-requires : goal.write_numbers-before-requires
 write_numbers-before-requires c =
-    let w = c.write_word-word.ensures in
+    let w = rw c.form_word.ensures at c.word-word.ensures in
     (c.requires.sizes_len_bound.0, omega (arith, room (goal.at.write_numbers-before-requires c).Start, w.to, put-length w))
 
 pub write_mixed-after-requires : goal.write_mixed-after-requires
 write_mixed-after-requires c =
-    let w = c.write_word-word.ensures in
+    let w = rw c.form_word.ensures at c.word-word.ensures in
     let z = c.write_numbers-before.ensures in
     omega (arith, room (goal.at.write_mixed-after-requires c).Start, w.to, put-length w, z.to, put-length z, length-numbers c.args.sizes.now)
 
 pub write_numbers-requires : goal.write_numbers-requires
 write_numbers-requires c =
-    let w = c.write_word-word.ensures in
+    let w = rw c.form_word.ensures at c.word-word.ensures in
     let z = c.write_numbers-before.ensures in
     let f = c.write_mixed-after.ensures in
     (c.requires.sizes_len_bound.1, omega (arith, room (goal.at.write_numbers-requires c).Start, w.to, put-length w, z.to, put-length z, length-numbers c.args.sizes.now, f.to, put-length f))
 
 pub byte-requires : goal.byte-requires
 byte-requires c =
-    let w = c.write_word-word.ensures in
+    let w = rw c.form_word.ensures at c.word-word.ensures in
     let z = c.write_numbers-before.ensures in
     let f = c.write_mixed-after.ensures in
     let q = c.write_numbers.ensures in
@@ -65,6 +66,7 @@ byte-requires c =
 pub returns : goal.returns
 returns c =
     let a = c.args in
-    let fields = put_then (put_then c.write_word-word.ensures c.write_numbers-before.ensures) c.write_mixed-after.ensures in
+    let w = rw c.form_word.ensures at c.word-word.ensures in
+    let fields = put_then (put_then w c.write_numbers-before.ensures) c.write_mixed-after.ensures in
     rw (form_line-parts a.family a.sizes.now (mixed_field a.class a.k) a.counts.now)
     (put_then (put_then fields c.write_numbers.ensures) c.byte.ensures)

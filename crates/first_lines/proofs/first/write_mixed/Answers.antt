@@ -1,45 +1,39 @@
--- `write_mixed` meets its contract, by the class: the tab, for the free class an `f`, and the digit, one after the other.
-use mathlib.Core.Path.{◌≡◌}
-use Prim.Native.Nat.{◌+◌, ◌≤◌}
+-- `write_mixed` meets its contract: the tab, what stands before the digit, and the digit, one after the other.
+use mathlib.Core.Path.{◌≡◌, ap}
+use Prim.Native.Nat.{ℕ, ◌+◌}
 use native.Mathlib.Omega.{arith}
-use lib.ListN.{length}
+use lib.ListN.{length, length-append}
 use Rattle.expansions.specs.declared.kinds.Class.{Class}
-use Rattle.listings.specs.Parts.{bytes}
-use Rattle.listings.specs.Listing.{mixed_mark, mixed_field}
+use Rattle.listings.specs.Listing.{decimal, mixed_mark, mixed_field}
 use Rattle.listings.proofs.Characters.{length-decimal}
 use Rattle.writing.proofs.Puts.{put_then, put-length}
 use Rattle.first_lines.proofs.first.write_mixed.Goals as goal
-use Rattle.first_lines.proofs.first.write_mixed.Goals.{Start}
 
--- the field has room
-room : (s : Start) (C : Class) → s.args.class ≡ C → let a = s.args in a.start.at + (1 + length (mixed_field C a.k)) ≤ length a.out.now
-room s C e = rw (← e) s.requires
+field-length : (C : Class) (k : ℕ) → length (mixed_field C k) ≡ length (mixed_mark C) + length (decimal k)
+unfolding mixed_field
+field-length C k = length-append (mixed_mark C) (decimal k)
+
+pub word-requires : goal.word-requires
+word-requires c =
+    let b = c.byte.ensures in
+    omega (arith, c.requires, b.to, put-length b, field-length c.args.class c.args.k, ap length c.mixed_mark.ensures)
 
 pub number-requires : goal.number-requires
-unfolding mixed_field mixed_mark bytes
 number-requires c =
-    let b = c.byte-field.ensures in
-    omega (arith, room (goal.at.number-requires c).Start _ c.in-Block.is, length-decimal c.args.k, b.to, put-length b)
+    let b = c.byte.ensures in
+    let m = c.word.ensures in
+    omega (
+      arith,
+      c.requires,
+      b.to,
+      put-length b,
+      m.to,
+      put-length m,
+      field-length c.args.class c.args.k,
+      length-decimal c.args.k,
+      ap length c.mixed_mark.ensures,
+    )
 
-pub byte-requires : goal.byte-requires
-unfolding mixed_field mixed_mark bytes
-byte-requires c =
-    let b = c.byte-field.ensures in
-    omega (arith, room (goal.at.byte-requires c).Start _ c.in-Free.is, b.to, put-length b)
-
-pub number-requires-in-Free : goal.number-requires-in-Free
-unfolding mixed_field mixed_mark bytes
-number-requires-in-Free c =
-    let b = c.byte-field.ensures in
-    let f = c.byte.ensures in
-    omega (arith, room (goal.at.number-requires-in-Free c).Start _ c.in-Free.is, length-decimal c.args.k, b.to, put-length b, f.to, put-length f)
-
-pub returns-in-Block : goal.returns-in-Block
-unfolding mixed_field mixed_mark bytes
-returns-in-Block c =
-    rw c.in-Block.is (put_then c.byte-field.ensures c.number.ensures)
-
-pub returns-in-Free : goal.returns-in-Free
-unfolding mixed_field mixed_mark bytes
-returns-in-Free c =
-    rw c.in-Free.is (put_then (put_then c.byte-field.ensures c.byte.ensures) c.number-in-Free.ensures)
+pub returns : goal.returns
+unfolding mixed_field
+returns c = put_then (put_then c.byte.ensures (rw c.mixed_mark.ensures at c.word.ensures)) c.number.ensures

@@ -1,5 +1,7 @@
 -- `check` meets its contract: the text is refused, or the listing is judged beside its table.
 use mathlib.Core.Path.{◌≡◌, refl, sym, ap, ◌∙◌}
+use borrow.Author.Rules.{rules}
+use Rattle.std.specs.Prelude.{Err}
 use Rattle.table_texts.specs.Inner.Reading.{Reading, reading, stands_for}
 use Rattle.table_texts.proofs.read.Accepted.{reading-accepted, read_whole, reads-given, reads-refused}
 use Rattle.fitter.specs.Inner.Answer.{checked}
@@ -12,16 +14,17 @@ means c = read_whole _ _ _ _ c.read_table.ensures refl
 
 pub check_design-requires : goal.check_design-requires
 check_design-requires c =
-    (reading-accepted _ _ _ (reads-given _ _ _ _ c.in-Given.is (means (goal.at.check_design-requires c).After-read_table))).sized.inputs.1
+    (reading-accepted _ _ _ (reads-given _ _ _ _ c.in_ok-design.was (means (goal.at.check_design-requires c).After-read_table))).sized.inputs.1
 
-pub returns-in-Given : goal.returns-in-Given
+pub returns : goal.returns
 unfolding checked
-returns-in-Given c =
-    let e = reads-given _ _ _ _ c.in-Given.is (means (goal.at.returns-in-Given c).After-read_table) in
+returns c =
+    let e = reads-given _ _ _ _ c.in_ok-design.was (means (goal.at.returns c).After-read_table) in
     check-words _ _ _ (c.check_design.ensures ∙ sym (ap (λ (x : Reading). checked x c.args.listing.now) e))
 
-pub returns-in-Refused : goal.returns-in-Refused
+pub returns-in_err-design : goal.returns-in_err-design
 unfolding checked
-returns-in-Refused c =
-    let e = reads-refused _ _ _ _ _ c.in-Refused.is (means (goal.at.returns-in-Refused c).After-read_table) in
-    check-words _ _ _ (sym (ap (λ (x : Reading). checked x c.args.listing.now) e))
+returns-in_err-design c =
+    let e = reads-refused _ _ _ _ c.in_err-design.was (means (goal.at.returns-in_err-design c).After-read_table) in
+    let same : c.from_residual.result ≡ Err c.in_err-design.field-0.0 = search rules in
+    check-words _ _ _ (same ∙ sym (ap (λ (x : Reading). checked x c.args.listing.now) e))

@@ -1,19 +1,18 @@
 -- `check_table` meets its contract: the listing is refused, or its record is judged.
-use mathlib.Core.Path.{refl, sym, ap, ◌∙◌}
-use Rattle.listing_texts.specs.declared.read.ListingRead.{ListingRead}
-use Rattle.fitter.specs.Inner.Judging.{judged_record}
+use mathlib.Core.Path.{◌≡◌, refl, sym, ap, ◌∙◌}
+use borrow.Author.Rules.{rules}
+use Rattle.std.specs.Prelude.{Ok, Err}
+use Rattle.fitter.specs.declared.check.Verdict.{Verdict}
 use Rattle.fitter.proofs.Judging.{record-judged, refused-judged}
 use Rattle.fitter.proofs.check.check_table.Goals as goal
 
-pub returns-in-Given : goal.returns-in-Given
-returns-in-Given c =
+pub returns-in_err-read_listing : goal.returns-in_err-read_listing
+returns-in_err-read_listing c =
     let a = c.args in
-    let read = c.read_listing-read.ensures.reading in
-    let told = sym (ap (λ (x : ListingRead). x.answer) read) ∙ c.in-Given.is in
-    c.judge_read.ensures ∙ ap (judged_record a.sizes a.table.now) read ∙ record-judged a.sizes a.table.now a.listing.now _ refl told
+    let same : c.from_residual.result ≡ Err c.in_err-read_listing.field-0.0 = search rules in
+    rw same (refused-judged a.sizes a.table.now a.listing.now _ _ (sym c.in_err-read_listing.ensures.reading))
 
-pub returns-in-Refused : goal.returns-in-Refused
-returns-in-Refused c =
+pub returns : goal.returns
+returns c =
     let a = c.args in
-    let told = sym (ap (λ (x : ListingRead). x.answer) c.read_listing-read.ensures.reading) ∙ c.in-Refused.is in
-    refused-judged a.sizes a.table.now a.listing.now _ _ _ told
+    ap (λ (v : Verdict). Ok v) c.judge_read.ensures ∙ record-judged a.sizes a.table.now a.listing.now _ _ refl (sym c.in_ok-read_listing.ensures.reading)

@@ -1,53 +1,29 @@
--- `all_show_back` meets its contract: after t turns every term below t passed.
-use borrow.Author.Tests.{not-true, not-false}
-use mathlib.Core.Path.{◌≡◌, refl, sym, ◌∙◌}
-use Prim.Native.Nat.{◌<◌, ◌^◌}
-use native.Mathlib.Numerals.{add-one}
+-- `all_show_back` meets its contract: either each term below 2^n passes, or some term fails.
+use borrow.Author.Rules.{rules}
+use mathlib.Core.Bool.{Bool, true, false}
+use mathlib.Core.Path.{◌≡◌, refl, sym, ap, ◌∙◌}
+use Prim.Native.Nat.{ℕ, ◌<◌, ◌^◌, ◌*◌, ◌%◌}
 use native.Mathlib.Omega.{arith}
+use Rattle.std.proofs.iter.runs.Sources.{ranges}
+use Rattle.numbers.specs.Bytes.{at}
 use Rattle.numbers.specs.Tests.{every}
-use Rattle.numbers.proofs.Shifts.{one_shifted, points-le}
-use Rattle.numbers.proofs.Tests.{every-fails}
+use Rattle.numbers.proofs.Shifts.{one_shifted}
+use Rattle.numbers.proofs.Tests.{every-from, every-fails}
 use Rattle.membership.specs.Class.{shows_back}
 use Rattle.fitter.proofs.class.all_show_back.Goals as goal
-use Rattle.fitter.proofs.class.all_show_back.Goals.{In-loop-t}
 
-term-lt : (c : In-loop-t) → c.loop-t.t < 2 ^ c.args.sizes.n
-term-lt c =
-    omega (arith, c.loop-t-test.true, one_shifted c.args.sizes.n (omega (arith, c.requires.0)))
-
--- a term is a place of the arrays
-place-lt : (c : In-loop-t) → c.loop-t.t < 256
-place-lt c =
-    omega (arith, term-lt c, points-le c.args.sizes.n c.requires.0)
-
-pub loop-t-init : goal.loop-t-init
-unfolding every
-loop-t-init c = (omega arith, refl)
-
-pub bounds-coefficients-t : goal.bounds-coefficients-t
-bounds-coefficients-t c = omega (arith, place-lt (goal.at.bounds-coefficients-t c).In-loop-t)
-
-pub bounds-complements-t : goal.bounds-complements-t
-bounds-complements-t c = omega (arith, place-lt (goal.at.bounds-complements-t c).In-loop-t)
-
-pub returns-then-not-shows_back : goal.returns-then-not-shows_back
-unfolding shows_back
-returns-then-not-shows_back c =
-    sym (every-fails _ _ c.loop-t.t (term-lt (goal.at.returns-then-not-shows_back c).In-loop-t) (sym c.shows_back.ensures ∙ not-true _ c.if-not-shows_back.true-raw))
-
-pub overflow_add-t : goal.overflow_add-t
-overflow_add-t c = omega (arith, place-lt (goal.at.overflow_add-t c).In-loop-t)
-
-pub loop-t-smaller : goal.loop-t-smaller
-loop-t-smaller c = omega (arith, term-lt (goal.at.loop-t-smaller c).In-loop-t)
-
-pub loop-t-preserved : goal.loop-t-preserved
-unfolding every shows_back
-loop-t-preserved c =
-    (omega (arith, term-lt (goal.at.loop-t-preserved c).In-loop-t), rw (add-one, c.loop-t.invariant.1) (sym c.shows_back.ensures ∙ not-false _ c.if-not-shows_back.false-raw))
+-- a test of all the numbers below N, by what it says
+by-test : (N : ℕ) (test : ℕ → Bool) (b : Bool) → (b ≡ true → (t : ℕ) → t < N → test t ≡ true) → (b ≡ false → (t : ℕ) × ((t < N) × (test t ≡ false)))
+    → b ≡ every N test
+by-test N test true passes fails = sym (every-from N test (passes refl))
+by-test N test false passes fails = let x = fails refl in sym (every-fails N test x.0 x.1.0 x.1.1)
 
 pub returns : goal.returns
+unfolding shows_back
 returns c =
-    let l = c.loop-t in
-    let e : l.t ≡ 2 ^ c.args.sizes.n = omega (arith, l.invariant.0, c.loop-t-test.false, one_shifted c.args.sizes.n (omega (arith, c.requires.0))) in
-    sym (rw e at l.invariant.1)
+    let a = c.args in
+    let test = shows_back a.sizes.class a.sizes.n a.sizes.k a.mixed a.fixed (at a.blocks.now) (at a.complements.now) (at a.coefficients.now) in
+    let size = one_shifted a.sizes.n (omega (arith, c.requires.0)) in
+    let passes : c.all.result ≡ true → (t : ℕ) → t < 1 * 2 ^ a.sizes.n % 2 ^ 64 → test t ≡ true = search (rules, ranges) in
+    let fails : c.all.result ≡ false → (t : ℕ) × ((t < 1 * 2 ^ a.sizes.n % 2 ^ 64) × (test t ≡ false)) = search (rules, ranges) in
+    by-test _ test _ passes fails ∙ ap (λ (N : ℕ). every N test) size

@@ -1,17 +1,13 @@
 -- `shows_back` meets its contract: a term with no line passes, and any other shows the polarity of its term.
-use borrow.Author.Tests.{eq-eqb, ne_eqb}
+use borrow.Author.Tests.{ne_eqb}
 use mathlib.Core.Path.{◌∙◌}
 use Rattle.search.proofs.polarity.Fitting.{term_polarity-fits}
 use Rattle.membership.specs.Class.{shows_back}
 use Rattle.fitter.proofs.class.shows_back.Goals as goal
 
-pub returns-then-coefficient-eq0 : goal.returns-then-coefficient-eq0
+pub returns-else-coefficient-eq0 : goal.returns-else-coefficient-eq0
 unfolding shows_back
-returns-then-coefficient-eq0 c = rw (eq-eqb _ _ c.if-coefficient-eq0.true)
-
-pub returns : goal.returns
-unfolding shows_back
-returns c =
+returns-else-coefficient-eq0 c =
     let a = c.args in
     let polarity = c.term_polarity.ensures ∙ term_polarity-fits _ _ _ _ _ _ a.t c.requires.0 c.requires.1 c.requires.2 in
-    rw (ne_eqb _ _ c.if-coefficient-eq0.false, ← polarity, ← c.wide.ensures.0)
+    rw (ne_eqb _ _ c.if-coefficient-eq0.false, ← polarity, ← c.from.ensures)

@@ -14,4 +14,4 @@ word_line w = ap (λ (v : List ℕ). v ++ 10 ∷ []) (append-nil w)
 pub returns : goal.returns
 returns c =
     rw (word_line c.args.word.now)
-    (put_then c.word.ensures c.byte-stop.ensures)
+    (put_then c.word.ensures c.byte.ensures)

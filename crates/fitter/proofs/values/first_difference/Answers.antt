@@ -1,55 +1,35 @@
--- `first_difference` meets its contract: after p turns no point below p differs.
-use borrow.Author.Count.{below_more}
-use mathlib.Core.Path.{◌≡◌, sym, ap, ◌∙◌}
-use Prim.Native.Nat.{ℕ, ◌<◌, ◌^◌}
-use native.Mathlib.Nat.{not-suc-le-zero}
+-- `first_difference` meets its contract: the point that is found is the lowest below 2^n that differs, and where none is found none differs.
+use borrow.Author.Rules.{rules}
+use mathlib.Core.Path.{◌≡◌, refl}
+use Prim.Native.Nat.{ℕ, ◌<◌, ◌^◌, ◌*◌, ◌%◌}
 use native.Mathlib.Omega.{arith}
-use lib.Bits.{bit_xor}
+use Rattle.std.specs.Prelude.{Option, Some, None}
+use Rattle.std.proofs.iter.runs.Sources.{ranges}
 use Rattle.numbers.specs.Bytes.{at}
-use Rattle.numbers.proofs.Shifts.{one_shifted, points-le}
+use Rattle.numbers.proofs.Shifts.{one_shifted}
 use Rattle.algebra.specs.Terms.{value}
-use Rattle.fitter.specs.Differences.{inverted_value}
+use Rattle.fitter.specs.Differences.{inverted_value, first_difference}
 use Rattle.fitter.specs.Inner.Differences.{difference_of}
 use Rattle.fitter.proofs.Differences.{none_differ, lowest-differs}
 use Rattle.fitter.proofs.values.first_difference.Goals as goal
-use Rattle.fitter.proofs.values.first_difference.Goals.{After-value_at, In-loop-p}
 
--- the byte that is compared with the table's
-compared_is : (c : After-value_at) → bit_xor c.value_at.result c.args.inverted
-    ≡ inverted_value c.args.n (at c.args.complements.now) (at c.args.coefficients.now)
-    c.args.inverted c.loop-p.p
-compared_is c = ap (λ (x : ℕ). bit_xor x c.args.inverted) c.value_at.ensures
+-- p is the lowest number that differs, of those below N
+abbrev Lowest : ℕ → (g f : ℕ → ℕ) → ℕ → Type 0
+Lowest N g f p = (p < N) × (g p ≡ f p → ⊥) × ((q : ℕ) → q < p → g q ≡ f q)
 
-point-lt : (c : In-loop-p) → c.loop-p.p < 2 ^ c.args.n
-point-lt c = omega (arith, c.loop-p-test.true, one_shifted c.args.n (omega arith))
-
-pub loop-p-init : goal.loop-p-init
-loop-p-init c = (omega arith, λ q h. absurd (not-suc-le-zero h))
-
-pub bounds-table-p : goal.bounds-table-p
-bounds-table-p c =
-    omega (arith, point-lt (goal.at.bounds-table-p c).In-loop-p, points-le c.args.n c.requires)
-
-pub returns-then-value_at-inverted : goal.returns-then-value_at-inverted
-unfolding difference_of value
-returns-then-value_at-inverted c =
-    let l = c.loop-p in
-    sym (ap difference_of (lowest-differs _ _ c.args.n l.p (point-lt (goal.at.returns-then-value_at-inverted c).In-loop-p) (λ e. c.if-value_at-inverted.true (compared_is (goal.at.returns-then-value_at-inverted c).After-value_at ∙ e)) l.invariant.1))
-
-pub overflow_add-p : goal.overflow_add-p
-overflow_add-p c =
-    omega (arith, point-lt (goal.at.overflow_add-p c).In-loop-p, points-le c.args.n c.requires)
-
-pub loop-p-smaller : goal.loop-p-smaller
-loop-p-smaller c = omega (arith, point-lt (goal.at.loop-p-smaller c).In-loop-p)
-
-pub loop-p-preserved : goal.loop-p-preserved
-loop-p-preserved c =
-    (omega (arith, point-lt (goal.at.loop-p-preserved c).In-loop-p), below_more _ _ c.loop-p.invariant.1 (sym (compared_is (goal.at.loop-p-preserved c).After-value_at) ∙ c.if-value_at-inverted.false))
+-- the lowest point that differs, by what a search of the numbers below N found
+by-search : (n N : ℕ) → N ≡ 2 ^ n → (g f : ℕ → ℕ) (r : Option ℕ) → (r ≡ None → (p : ℕ) → p < N → g p ≡ f p)
+    → ((p : ℕ) → r ≡ Some p → Lowest N g f p) → r ≡ difference_of (first_difference n g f)
+unfolding difference_of
+by-search n N e g f None none some = rw (none_differ g f n (λ p h. none refl p (omega arith)))
+by-search n N e g f (Some p) none some = let x = some p refl in rw (lowest-differs g f n p (omega (arith, x.0)) x.1 x.2)
 
 pub returns : goal.returns
-unfolding difference_of value
+unfolding value
 returns c =
-    let l = c.loop-p in
-    let e : l.p ≡ 2 ^ c.args.n = omega (arith, l.invariant.0, c.loop-p-test.false, one_shifted c.args.n (omega (arith, c.requires))) in
-    sym (ap difference_of (none_differ _ _ c.args.n (λ q h. l.invariant.1 q (rw e h))))
+    let a = c.args in
+    let given = inverted_value a.n (at a.complements.now) (at a.coefficients.now) a.inverted in
+    let size = one_shifted a.n (omega (arith, c.requires)) in
+    let none : c.find.result ≡ None → (p : ℕ) → p < 1 * 2 ^ a.n % 2 ^ 64 → given p ≡ at a.table.now p = search (rules, ranges) in
+    let some : (p : ℕ) → c.find.result ≡ Some p → Lowest (1 * 2 ^ a.n % 2 ^ 64) given (at a.table.now) p = search (rules, ranges) in
+    by-search a.n _ size given (at a.table.now) _ none some

@@ -1,5 +1,4 @@
 use mathlib.Core.Path.{◌≡◌}
-use Prim.Native.Nat.{◌-◌, ◌≤◌, ◌^◌}
 use lib.Bits.{bit_xor}
 use Rattle.numbers.specs.Bytes.{at}
 use Rattle.numbers.specs.Sums.{fold_below}
@@ -8,7 +7,4 @@ use Rattle.algebra.specs.Terms.{holds}
 use Rattle.fitter.proofs.values.value_at.Given as goal
 
 abbrev pub invariant-loop-t : goal.invariant-loop-t
-invariant-loop-t l = (l.t ≤ 2 ^ l.n) × (l.sum ≡ fold_below bit_xor l.t (λ u. only (holds u (at l.complements u) l.p) (at l.coefficients u)))
-
-abbrev pub decreases-loop-t : goal.decreases-loop-t
-decreases-loop-t l = 2 ^ l.n - l.t
+invariant-loop-t l = l.sum ≡ fold_below bit_xor l.t (λ u. only (holds u (at l.complements u) l.p) (at l.coefficients u))

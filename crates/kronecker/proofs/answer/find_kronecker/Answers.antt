@@ -11,6 +11,6 @@ pub returns-then-is_table : goal.returns-then-is_table
 unfolding searched_kronecker
 returns-then-is_table c = searched-found _ _ _ _ (c.search_kinds.ensures ∙ sym (rw (sym c.is_table.ensures ∙ c.if-is_table.true)))
 
-pub returns : goal.returns
+pub returns-else-is_table : goal.returns-else-is_table
 unfolding searched_kronecker
-returns c = searched-found _ _ _ _ (c.empty.ensures ∙ sym (rw (sym c.is_table.ensures ∙ c.if-is_table.false)))
+returns-else-is_table c = searched-found _ _ _ _ (c.empty.ensures ∙ sym (rw (sym c.is_table.ensures ∙ c.if-is_table.false)))

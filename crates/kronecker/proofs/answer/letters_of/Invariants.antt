@@ -1,9 +1,7 @@
-use Prim.Native.Nat.{◌-◌}
+use mathlib.Core.List.{map}
 use Rattle.expansions.proofs.Kronecker.Coefficients.{LettersTo}
+use Rattle.kronecker.specs.Letters.{letter_number}
 use Rattle.kronecker.proofs.answer.letters_of.Given as goal
 
-abbrev pub invariant-loop-i : goal.invariant-loop-i
-invariant-loop-i l = LettersTo l.kind l.rest l.i l.letters
-
-abbrev pub decreases-loop-i : goal.decreases-loop-i
-decreases-loop-i l = 8 - l.i
+abbrev pub invariant-loop-letter : goal.invariant-loop-letter
+invariant-loop-letter l = LettersTo l.kind l.rest l.letter-index (map letter_number l.letter-items)

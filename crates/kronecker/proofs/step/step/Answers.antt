@@ -1,36 +1,39 @@
--- `step` meets its contract: every place below `base` has had the step.
-use Prim.Native.Nat.{ℕ}
+-- `step` meets its contract: after each turn the places of the runs so far have had the step.
+use mathlib.Core.List.{List}
+use mathlib.Core.Path.{◌≡◌}
+use Prim.Native.Nat.{ℕ, ◌+◌, ◌*◌, ◌/◌, ◌%◌, ◌^◌, ◌<◌}
+use native.Mathlib.Nat.{pow-suc, mul-zero}
+use native.Mathlib.Numerals.{add-one}
 use native.Mathlib.Omega.{arith}
 use lib.ListN.{length-replicate}
 use lib.Pow.{pow_pos}
+use Rattle.std.proofs.Math.Nat.{div-add-mod, mul-lt-mul_of_pos_left}
 use Rattle.numbers.proofs.Tables.{get_d-zeros}
-use Rattle.expansions.proofs.Kronecker.Runs.{step_start, step_room, step-next, step-all}
+use Rattle.expansions.proofs.Kronecker.Runs.{StepAt, step_start, step-next}
 use Rattle.kronecker.proofs.step.step.Goals as goal
 
-pub loop-base-init : goal.loop-base-init
-loop-base-init c = step_start _ _ _ _ _ c.requires.0 c.requires.1 c.requires.2 (length-replicate {A = ℕ} 256 0) (get_d-zeros 256)
+module _ {i letter size half base : ℕ} {from : ℕ → ℕ} {to : List ℕ} (s : StepAt i letter size half base from to) where
+  -- the runs fill the places
+  filled : 2 * half * (size / 2 ^ (i + 1)) ≡ size
+  filled =
+      let w : 2 * half ≡ 2 ^ (i + 1) = rw add-one (omega (arith, s.weight, pow-suc 2 i)) in
+      let z : size % 2 ^ (i + 1) ≡ 0 = rw add-one s.whole in
+      rw w (omega (arith, div-add-mod size (2 ^ (i + 1)), z))
 
-pub step_run-requires : goal.step_run-requires
-step_run-requires c = let s = c.loop-base.invariant in (omega (arith, step_room _ _ _ _ _ _ _ c.loop-base-test.true s, s.room), s.long)
+  -- a run begins at a place
+  begins : (run : ℕ) → run < size / 2 ^ (i + 1) → 2 * half * run < size
+  begins run h =
+      let below : 2 * half * run < 2 * half * (size / 2 ^ (i + 1)) = mul-lt-mul_of_pos_left h (omega (arith, s.weight, pow_pos i)) in
+      rw filled at below
 
-pub overflow_add-base : goal.overflow_add-base
-overflow_add-base c =
-    let s = c.loop-base.invariant in
-    omega (arith, step_room _ _ _ _ _ _ _ c.loop-base-test.true s, s.room)
+next_run : (half run : ℕ) → 2 * half * (run + 1) ≡ 2 * half * run + half + half
+next_run half run = omega arith
 
-pub overflow_add-base-in-loop-base : goal.overflow_add-base-in-loop-base
-overflow_add-base-in-loop-base c =
-    let s = c.loop-base.invariant in
-    omega (arith, step_room _ _ _ _ _ _ _ c.loop-base-test.true s, s.room)
+pub loop-run-init : goal.loop-run-init
+loop-run-init c = rw mul-zero (step_start _ _ _ _ _ c.requires.0 c.requires.1 c.requires.2 (length-replicate {A = ℕ} 256 0) (get_d-zeros 256))
 
-pub loop-base-smaller : goal.loop-base-smaller
-loop-base-smaller c =
-    let s = c.loop-base.invariant in
-    omega (arith, c.loop-base-test.true, s.weight, pow_pos c.args.i)
-
-pub loop-base-preserved : goal.loop-base-preserved
-loop-base-preserved c =
-    step-next _ _ _ _ _ _ _ _ c.loop-base-test.true c.step_run.ensures.to_len c.loop-base.invariant c.step_run.ensures.run_stepped
-
-pub returns : goal.returns
-returns c = step-all _ _ _ _ _ _ _ c.loop-base-test.false c.loop-base.invariant
+pub loop-run-preserved : goal.loop-run-preserved
+loop-run-preserved c =
+    let s = c.loop-run.invariant in
+    rw (next_run _ c.loop-run.run)
+    (step-next _ _ _ _ _ _ _ _ (begins s _ c.loop-run-test.true) c.step_run.ensures.to_len s c.step_run.ensures.run_stepped)

@@ -3,10 +3,8 @@ use mathlib.Core.Path.{◌≡◌}
 use Prim.Native.Nat.{suc, ◌+◌, ◌<◌}
 use native.Mathlib.Omega.{arith}
 use Rattle.expansions.proofs.Kronecker.Walking.{place-light, step_fits, place-shannon, place-positive, place-negative, walked-three}
+use Rattle.kronecker.specs.Letters.{letter_number}
 use Rattle.kronecker.proofs.walk.+walk.Goals as goal
-
-pub try_last-requires : goal.try_last-requires
-try_last-requires t c = let e : c.args.n ≡ suc c.args.i = omega (arith, c.if-i-n.true) in rw e at c.requires
 
 pub returns-then-i-n : goal.returns-then-i-n
 returns-then-i-n t c = let e : suc c.args.i ≡ c.args.n = omega (arith, c.if-i-n.true) in rw e at c.try_last.ensures
@@ -36,6 +34,7 @@ step-plain-requires t c =
     step_fits _ _ _ _ _ _ _ a more
 
 pub walk-positive-requires : goal.walk-positive-requires
+unfolding letter_number
 walk-positive-requires t c =
     let a = c.requires.1 in
     let more : c.args.i + 1 < c.args.n = omega (arith, a.depth, c.if-i-n.false) in
@@ -48,12 +47,14 @@ step-other-requires t c =
     step_fits _ _ _ _ _ _ _ a more
 
 pub walk-requires : goal.walk-requires
+unfolding letter_number
 walk-requires t c =
     let a = c.requires.1 in
     let more : c.args.i + 1 < c.args.n = omega (arith, a.depth, c.if-i-n.false) in
     (omega (arith, c.decreases), (c.requires.0, place-negative _ _ _ _ _ _ _ a _ _ more c.step-other.ensures c.weigh-some.ensures))
 
 pub returns : goal.returns
+unfolding letter_number
 returns t c =
     let more : c.args.i + 1 < c.args.n = omega (arith, c.requires.1.depth, c.if-i-n.false) in
     λ f a.

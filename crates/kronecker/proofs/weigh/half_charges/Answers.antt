@@ -1,6 +1,6 @@
 -- `half_charges` meets its contract: after s turns the first s places of each half are weighed.
 use native.Mathlib.Omega.{arith}
-use Rattle.expansions.proofs.Kronecker.Weighing.{halves-none, halves-more, halves-all, halves-fit}
+use Rattle.expansions.proofs.Kronecker.Weighing.{halves-none, halves-more, halves-fit}
 use Rattle.kronecker.proofs.weigh.half_charges.Goals as goal
 
 pub loop-s-init : goal.loop-s-init
@@ -25,6 +25,3 @@ pub loop-s-preserved : goal.loop-s-preserved
 loop-s-preserved c =
     halves-more _ _ _ _ _ _ _ _ _ _ _ c.loop-s-test.true c.loop-s.invariant c.counted_weight-lower.ensures
     c.counted_weight-upper.ensures c.counted_weight-both.ensures
-
-pub returns : goal.returns
-returns c = halves-all _ _ _ _ _ _ _ _ c.loop-s-test.false c.loop-s.invariant

@@ -1,10 +1,6 @@
-use Prim.Native.Nat.{◌-◌}
 use Rattle.numbers.specs.Bytes.{at}
 use Rattle.expansions.proofs.Kronecker.Weighing.{HalvesTo}
 use Rattle.kronecker.proofs.weigh.half_charges.Given as goal
 
 abbrev pub invariant-loop-s : goal.invariant-loop-s
 invariant-loop-s l = HalvesTo l.m l.half l.s (at l.values) (at l.weights) l.lower l.upper l.both
-
-abbrev pub decreases-loop-s : goal.decreases-loop-s
-decreases-loop-s l = l.half - l.s

@@ -4,28 +4,8 @@ use native.Mathlib.Omega.{arith}
 use lib.ListN.{length}
 use Rattle.numbers.proofs.Bytes.{length-tabulate}
 use Rattle.lanes.proofs.expand.Laying.{closed-lt, blocks-both}
-use Rattle.lanes.proofs.expand.Room.{blocks-le, room_fits, room-counted, room-lent, room-kept, room-fits-again, room-counted-again}
+use Rattle.lanes.proofs.expand.Room.{blocks-le, room-kept}
 use Rattle.lanes.proofs.expand.expand_blocks.Goals as goal
-
-pub slice_bounds-laid-end : goal.slice_bounds-laid-end
-slice_bounds-laid-end c = room_fits 8 c.args.sizes (omega arith) c.requires.limits
-
-pub slice_bounds-lay_out-end : goal.slice_bounds-lay_out-end
-slice_bounds-lay_out-end c = room-counted 8 c.args.sizes (omega arith) c.requires.limits
-
-pub lay_out-requires : goal.lay_out-requires
-lay_out-requires c =
-    record { limits = c.requires.limits; mixed_set = c.requires.mixed_set; table_len = (c.requires.table_len.0, room-lent 8 c.args.sizes (omega arith) c.requires.limits) }
-
-pub slice_bounds-laid-end-2 : goal.slice_bounds-laid-end-2
-slice_bounds-laid-end-2 c =
-    let laid = c.lay_out in
-    room-fits-again 8 c.args.sizes (omega arith) c.requires.limits laid.new.lanes _ (ap length laid.ensures.lanes_after ∙ length-tabulate _ _)
-
-pub slice_bounds-expand_lanes-end : goal.slice_bounds-expand_lanes-end
-slice_bounds-expand_lanes-end c =
-    let laid = c.lay_out in
-    room-counted-again 8 c.args.sizes (omega arith) c.requires.limits laid.new.lanes _ (ap length laid.ensures.lanes_after ∙ length-tabulate _ _)
 
 pub expand_lanes-requires : goal.expand_lanes-requires
 expand_lanes-requires c =

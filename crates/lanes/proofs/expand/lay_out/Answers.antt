@@ -11,7 +11,7 @@ use Rattle.lanes.specs.Inner.Sizes.{Limits, MixedSet}
 use Rattle.lanes.specs.declared.sizes.Sizes.{Sizes}
 use Rattle.lanes.proofs.expand.LaidOut.{placed-laid-out}
 use Rattle.lanes.proofs.expand.Laying.{opened-long, opened-kept, points-long, points-room, laid_out}
-use Rattle.lanes.proofs.expand.Room.{few, room_fits, room-counted, room-fits-again, room-counted-again}
+use Rattle.lanes.proofs.expand.Room.{few, room-fits-again, room-counted-again}
 use Rattle.lanes.proofs.expand.lay_out.Goals as goal
 
 -- the words follow from the equation
@@ -19,12 +19,6 @@ in_words : (s : Sizes) (M : ℕ) (table lanes : List ℕ) → Limits s → Mixed
     → lanes ≡ tabulate (8 * 2 ^ (s.n - s.k)) (λ x. places_byte s.n s.k M (at table) (x % 8) (x / 8))
     → (lanes ≡ tabulate (8 * 2 ^ (s.n - s.k)) (λ x. places_byte s.n s.k M (at table) (x % 8) (x / 8))) × LaidOut s.n s.k M table lanes
 in_words s M table lanes limits set e = (e, placed-laid-out s.n s.k M table set.size (few s limits) lanes e)
-
-pub slice_bounds-points-end : goal.slice_bounds-points-end
-slice_bounds-points-end c = room_fits 1 c.args.sizes (omega arith) c.requires.limits
-
-pub slice_bounds-open_out-end : goal.slice_bounds-open_out-end
-slice_bounds-open_out-end c = room-counted 1 c.args.sizes (omega arith) c.requires.limits
 
 pub open_out-requires : goal.open_out-requires
 open_out-requires c =

@@ -1,29 +1,25 @@
--- `open_out` meets its contract: the points below y are filled, and `point` is the next.
-use borrow.Author.Rules.{rules}
-use mathlib.Core.Path.{sym}
+-- `open_out` meets its contract: the points so far are filled, and `next` is the one that comes.
+use mathlib.Core.Path.{refl, sym}
 use native.Mathlib.Numerals.{add-one}
-use Rattle.numbers.proofs.Bytes.{filled_none, filled_more, filled-all}
-use Rattle.numbers.proofs.Shifts.{mask-byte}
+use native.Mathlib.Omega.{arith}
+use Rattle.numbers.proofs.Front.{front_none, front_more, front_all}
 use Rattle.expansions.proofs.Split.{spread-zero, spread-lt}
 use Rattle.lanes.proofs.expand.Laying.{opened-byte}
 use Rattle.lanes.proofs.expand.open_out.Goals as goal
 
-pub loop-y-init : goal.loop-y-init
-loop-y-init c = (filled_none _ _, sym (spread-zero _ _))
+pub loop-point-init : goal.loop-point-init
+loop-point-init c = (front_none _ _ _ refl, sym (spread-zero _ _))
 
-pub overflow_cast-points : goal.overflow_cast-points
-overflow_cast-points c = search (rules, mask-byte)
+pub next_point-next-requires : goal.next_point-next-requires
+next_point-next-requires c =
+    let p = c.requires in (p.0, p.1, rw c.loop-point.invariant.1 (spread-lt _ _ _))
 
-pub next_point-point-requires : goal.next_point-point-requires
-next_point-point-requires c =
-    let p = c.requires in (p.0, p.1, rw c.loop-y.invariant.1 (spread-lt _ _ _))
-
-pub loop-y-preserved : goal.loop-y-preserved
-loop-y-preserved c =
-    let l = c.loop-y in (
-      filled_more _ _ _ _ _ c.loop-y-test.true (opened-byte c.args.n c.args.mask l.y l.point c.requires.0 l.invariant.1) l.invariant.0,
-      rw (add-one l.y) (c.next_point-point.ensures.by_index l.y l.invariant.1),
+pub loop-point-preserved : goal.loop-point-preserved
+loop-point-preserved c =
+    let l = c.loop-point in (
+      front_more _ _ _ l.points _ (omega (arith, l.invariant.0.long)) (opened-byte c.args.n c.args.mask l.point-index l.next c.requires.0 l.invariant.1) l.invariant.0,
+      rw (add-one l.point-index) (c.next_point-next.ensures.by_index l.point-index l.invariant.1),
     )
 
 pub returns : goal.returns
-returns c = filled-all _ _ _ _ c.loop-y-test.false c.loop-y.invariant.0
+returns c = let l = c.loop-point in front_all _ _ l.point-index l.points (omega (arith, l.invariant.0.long)) l.invariant.0

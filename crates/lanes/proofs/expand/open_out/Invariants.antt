@@ -1,12 +1,8 @@
 use mathlib.Core.Path.{◌≡◌}
-use Prim.Native.Nat.{◌-◌}
 use lib.ListN.{length}
-use Rattle.numbers.proofs.Bytes.{Filled}
+use Rattle.numbers.proofs.Front.{Front}
 use Rattle.expansions.specs.Split.{spread}
 use Rattle.lanes.proofs.expand.open_out.Given as goal
 
-abbrev pub invariant-loop-y : goal.invariant-loop-y
-invariant-loop-y l = Filled (spread l.n l.mask) l.y l.initial.points l.points × (l.point ≡ spread l.n l.mask l.y)
-
-abbrev pub decreases-loop-y : goal.decreases-loop-y
-decreases-loop-y l = length l.initial.points - l.y
+abbrev pub invariant-loop-point : goal.invariant-loop-point
+invariant-loop-point l = Front (spread l.n l.mask) (length l.initial.points) l.point-index l.points × (l.next ≡ spread l.n l.mask l.point-index)

@@ -44,8 +44,8 @@ returns-then-all-t c =
     let h : 2 ^ c.args.sizes.n ≤ c.args.t = omega (arith, size (goal.at.returns-then-all-t c).Start) in
     sym (only_above _ _ _ h)
 
-pub bounds-chosen-j : goal.bounds-chosen-j
-bounds-chosen-j c = omega (arith, block-small (goal.at.bounds-chosen-j c).After-split-parts)
+pub bounds-chosen-parts : goal.bounds-chosen-parts
+bounds-chosen-parts c = omega (arith, block-small (goal.at.bounds-chosen-parts c).After-split-parts)
 
 pub coefficient_in-requires : goal.coefficient_in-requires
 coefficient_in-requires c =

@@ -7,4 +7,4 @@ use Rattle.listing_writing.proofs.form.write_inv.Goals as goal
 pub returns : goal.returns
 unfolding bytes
 returns c =
-    rw (inv_line-parts _ _) (put_then c.word-word.ensures c.end_term.ensures)
+    rw (inv_line-parts _ _) (put_then c.word.ensures c.end_term.ensures)

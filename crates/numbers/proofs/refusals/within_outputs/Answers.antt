@@ -1,39 +1,23 @@
--- `within_outputs` meets its contract: the OR of the bytes passed, with the bytes that are left, tells what all the bytes tell.
-use mathlib.Core.Path.{◌≡◌, ap, sym, ◌∙◌}
-use Prim.Native.Nat.{ℕ, ◌^◌, ◌<◌}
-use lib.Bits.{or_lt}
-use lib.Dec.{ltb}
-use lib.ListN.{length}
-use lib.Pow.{pow_mono}
-use borrow.Author.Tests.{lt-ltb}
-use Rattle.numbers.proofs.Shifts.{one_shifted}
-use Rattle.numbers.proofs.refusals.Outputs.{seen_none, seen_more, seen_all}
+-- `within_outputs` meets its contract: `all` makes the test of `all_below`, and there is no test to make where m is 8 or more.
+use mathlib.Core.Path.{◌≡◌, ap, ◌∙◌}
+use Prim.Native.Nat.{ℕ, ◌*◌, ◌^◌, ◌%◌}
+use native.Mathlib.Nat.{one-mul}
 use native.Mathlib.Omega.{arith}
+use lib.Dec.{ltb, lit<}
+use lib.Pow.{shl_exact}
+use Rattle.std.proofs.Common.{rules, tests}
+use Rattle.std.proofs.lemmas.Iterator.{YieldsList-from_slice}
+use Rattle.std.proofs.lemmas.Iterator.Search.{all_from_yields_List}
+use Rattle.numbers.specs.Bytes.{all_below}
+use Rattle.numbers.proofs.refusals.Outputs.{below_each, below-whole}
 use Rattle.numbers.proofs.refusals.within_outputs.Goals as goal
 
-pub loop-q-init : goal.loop-q-init
-loop-q-init c = (omega arith, omega arith, seen_none _ _)
-
-pub loop-q-preserved : goal.loop-q-preserved
-loop-q-preserved c =
-    let l = c.loop-q in
-    (omega arith, or_lt 8 _ _ l.invariant.1 (omega (arith, c.shared_slice_known-1.given l.q)), seen_more _ _ _ _ c.loop-q-test.true l.invariant.2)
-
 pub returns-then-m-ge-OUTPUTS : goal.returns-then-m-ge-OUTPUTS
-returns-then-m-ge-OUTPUTS c =
-    let l = c.loop-q in
-    let e : l.q ≡ length c.args.bytes.now = omega (arith, c.loop-q-test.false, l.invariant.0) in
-    let h : l.seen < 2 ^ c.args.m = omega (arith, l.invariant.1, pow_mono c.if-m-ge-OUTPUTS.true) in
-    sym (lt-ltb _ _ h) ∙ seen_all _ _ _ _ e l.invariant.2
+returns-then-m-ge-OUTPUTS c = below-whole _ _ c.if-m-ge-OUTPUTS.true (λ p. omega (arith, c.type_inv.bytes p))
 
-pub overflow_shl-limit : goal.overflow_shl-limit
-overflow_shl-limit c = omega (arith, c.if-m-ge-OUTPUTS.false)
-
-pub overflow_cast-result : goal.overflow_cast-result
-overflow_cast-result c = omega (arith, c.loop-q.invariant.1)
-
-pub returns : goal.returns
-returns c =
-    let l = c.loop-q in
-    let e : l.q ≡ length c.args.bytes.now = omega (arith, c.loop-q-test.false, l.invariant.0) in
-    ap (λ (x : ℕ). ltb l.seen x) (one_shifted c.args.m (omega (arith, c.if-m-ge-OUTPUTS.false))) ∙ seen_all _ _ _ _ e l.invariant.2
+pub returns-else-m-ge-OUTPUTS : goal.returns-else-m-ge-OUTPUTS
+returns-else-m-ge-OUTPUTS c =
+    let a = c.args in
+    let bound : 1 * 2 ^ a.m % 2 ^ 8 ≡ 2 ^ a.m = shl_exact 1 a.m 8 (lit< tt) (omega (arith, c.if-m-ge-OUTPUTS.false)) ∙ one-mul (2 ^ a.m) in
+    all_from_yields_List (λ x. ltb x (1 * 2 ^ a.m % 2 ^ 8)) _ _ _ c.all.ensures.ran (YieldsList-from_slice a.bytes.now cc) (λ x b q k. search (rules, tests))
+    ∙ below_each _ a.bytes.now ∙ ap (λ (x : ℕ). all_below x a.bytes.now) bound

@@ -1,11 +1,8 @@
 use mathlib.Core.Path.{◌≡◌}
-use Prim.Native.Nat.{◌-◌, ◌*◌, ◌^◌, ◌≤◌}
+use Prim.Native.Nat.{◌*◌, ◌^◌, ◌≤◌}
 use Rattle.numbers.specs.Bytes.{at}
 use Rattle.pairs.specs.Inner.Pairs.{Leads}
 use Rattle.pairs.proofs.leader.first_least.Given as goal
 
 abbrev pub invariant-loop-mixed : goal.invariant-loop-mixed
 invariant-loop-mixed l = (l.all ≡ 2 ^ l.sizes.n) × (l.mixed ≤ 2 ^ l.sizes.n) × Leads l.sizes.class l.sizes.family l.sizes.n l.sizes.k (at l.table) (l.mixed * 2 ^ l.sizes.n) l.led
-
-abbrev pub decreases-loop-mixed : goal.decreases-loop-mixed
-decreases-loop-mixed l = l.all - l.mixed

@@ -1,19 +1,13 @@
 -- `try_mixed` meets its contract: `mixed` has another number of inputs, or every i is tried with it.
 use mathlib.Core.Path.{sym, ◌∙◌}
 use native.Mathlib.Omega.{arith}
-use Rattle.lanes.proofs.expand.Room.{room_fits, room-lent, room-counted}
+use Rattle.lanes.proofs.expand.Room.{room-lent}
 use Rattle.pairs.proofs.leader.Leading.{leads-other}
 use Rattle.pairs.proofs.leader.try_mixed.Goals as goal
 
 pub returns-then-ones_in-sizes : goal.returns-then-ones_in-sizes
 returns-then-ones_in-sizes c =
     leads-other c.args.sizes.class c.args.sizes.family _ _ _ _ _ (λ e. c.if-ones_in-sizes.true (c.ones_in.ensures ∙ e)) c.requires.mixed_bound.1
-
-pub slice_bounds-lanes-end : goal.slice_bounds-lanes-end
-slice_bounds-lanes-end c = room_fits 8 c.args.sizes (omega arith) c.requires.limits
-
-pub slice_bounds-try_polarities-end : goal.slice_bounds-try_polarities-end
-slice_bounds-try_polarities-end c = room-counted 8 c.args.sizes (omega arith) c.requires.limits
 
 pub try_polarities-requires : goal.try_polarities-requires
 try_polarities-requires c =

@@ -2,7 +2,7 @@
 use mathlib.Core.Path.{◌∙◌}
 use native.Mathlib.Omega.{arith}
 use Rattle.numbers.proofs.Shifts.{one_shifted}
-use Rattle.lanes.proofs.expand.Room.{blocks-le, room-le}
+use Rattle.lanes.proofs.expand.Room.{blocks-le}
 use Rattle.pairs.proofs.leader.Trying.{trying-none, trying-next, trying-all}
 use Rattle.pairs.proofs.leader.try_polarities.Goals as goal
 
@@ -15,8 +15,8 @@ loop-w-init c =
     let e = c.expand_blocks in
     trying-none _ _ _ _ _ _ (one_shifted _ (omega (arith, blocks-le c.args.sizes p.limits))) (e.auto.lanes ∙ p.mixed_set.1) e.ensures.lanes_after p.leads
 
-pub try_polarity-next-requires : goal.try_polarity-next-requires
-try_polarity-next-requires c =
+pub try_polarity-led-requires : goal.try_polarity-led-requires
+try_polarity-led-requires c =
     let p = c.requires in
     record { rows = p.rows; limits = p.limits; mixed_bound = (p.mixed_set.0.mask, c.loop-w.invariant.long) }
 
@@ -25,12 +25,6 @@ next_polarity-requires c =
     let l = c.loop-w in
     (blocks-le c.args.sizes c.requires.limits, omega (arith, c.loop-w-test.true, l.invariant.all), l.invariant.long)
 
-pub overflow_add-w : goal.overflow_add-w
-overflow_add-w c =
-    let less = c.loop-w-test.true in
-    let l = c.loop-w in
-    omega (arith, less, l.invariant.all, room-le 1 c.args.sizes (omega arith) c.requires.limits)
-
 pub loop-w-preserved : goal.loop-w-preserved
 loop-w-preserved c =
     let p = c.requires in
@@ -38,7 +32,7 @@ loop-w-preserved c =
     let less = c.loop-w-test.true in
     let next = c.next_polarity in
     trying-next c.args.sizes c.args.mixed c.args.table.now _ _ _ _ p.mixed_set.0 l.invariant p.limits p.given less _ _
-    c.try_polarity-next.ensures next.auto.lanes next.ensures.by_index
+    c.try_polarity-led.ensures next.auto.lanes next.ensures.by_index
 
 pub returns : goal.returns
 returns c =

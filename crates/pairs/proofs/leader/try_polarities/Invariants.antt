@@ -1,10 +1,6 @@
-use Prim.Native.Nat.{◌-◌}
 use Rattle.numbers.specs.Bytes.{at}
 use Rattle.pairs.proofs.leader.Trying.{Trying}
 use Rattle.pairs.proofs.leader.try_polarities.Given as goal
 
 abbrev pub invariant-loop-w : goal.invariant-loop-w
 invariant-loop-w l = Trying l.sizes l.mixed (at l.table) l.count l.w l.lanes l.led
-
-abbrev pub decreases-loop-w : goal.decreases-loop-w
-decreases-loop-w l = l.count - l.w

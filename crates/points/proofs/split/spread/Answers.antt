@@ -1,16 +1,11 @@
 -- `spread` meets its contract: x has the bits of y at the inputs of the mask below b.
 use borrow.Author.Rules.{rules}
-use mathlib.Core.Path.{◌≡◌, refl, ◌∙◌, ap}
+use mathlib.Core.Path.{refl, ◌∙◌, ap}
 use Prim.Native.Nat.{ℕ}
-use Rattle.expansions.specs.ClosedUp.{OpenedOut}
 use Rattle.expansions.specs.Split.{spread}
 use Rattle.expansions.proofs.ClosedUp.{spread-opened-out}
 use Rattle.points.proofs.split.Walks.{passed_none, passed-more, passed-shift, passed-fits, passed-all, digit-in, spread-digit}
 use Rattle.points.proofs.split.spread.Goals as goal
-
--- the words follow from the equation
-opened : (n M y x : ℕ) → x ≡ spread n M y → (x ≡ spread n M y) × OpenedOut n M y x
-opened n M y x e = (e, rw e (spread-opened-out n M y))
 
 pub loop-b-init : goal.loop-b-init
 unfolding spread
@@ -30,9 +25,9 @@ loop-b-preserved c =
       spread-digit _ _ _ _ _ _ _ l.invariant.0 l.invariant.1 (digit-in l.b a.mask l.used a.y),
     )
 
-pub returns : goal.returns
-returns c =
+pub returns-clause-bits : goal.returns-clause-bits
+returns-clause-bits c =
     let l = c.loop-b in
     let a = c.args in
-    let o = opened a.n a.mask a.y _ (l.invariant.1 ∙ ap (λ (b : ℕ). spread b a.mask a.y) (passed-all _ _ _ _ c.loop-b-test.false l.invariant.0)) in
-    record { value = o.0; bits = o.1 }
+    let e = l.invariant.1 ∙ ap (λ (b : ℕ). spread b a.mask a.y) (passed-all _ _ _ _ c.loop-b-test.false l.invariant.0) in
+    rw e (spread-opened-out a.n a.mask a.y)

@@ -1,11 +1,7 @@
 use mathlib.Core.Path.{◌≡◌}
-use Prim.Native.Nat.{◌-◌}
 use Rattle.expansions.specs.Split.{spread}
 use Rattle.points.proofs.split.Walks.{Passed}
 use Rattle.points.proofs.split.spread.Given as goal
 
 abbrev pub invariant-loop-b : goal.invariant-loop-b
 invariant-loop-b l = Passed l.n l.mask l.used l.b × (l.x ≡ spread l.b l.mask l.y)
-
-abbrev pub decreases-loop-b : goal.decreases-loop-b
-decreases-loop-b l = l.n - l.b

@@ -4,4 +4,4 @@ use Rattle.program_files.proofs.sources.name_input.Goals as goal
 
 pub returns-clause-put : goal.returns-clause-put
 unfolding bytes
-returns-clause-put c = λ h. c.word-stop.ensures
+returns-clause-put c = λ h. c.word.ensures

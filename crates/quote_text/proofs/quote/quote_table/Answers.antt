@@ -1,27 +1,17 @@
 -- `quote_table` meets its contract, by the kind of k.
-use mathlib.Core.Path.{sym, ap, subst, ◌∙◌}
-use Rattle.table_texts.specs.declared.sizes.Design.{Design}
-use Rattle.table_texts.specs.Accepted.{Accepted}
-use Rattle.table_texts.proofs.Design.{mixed-design, kronecker-design}
-use Rattle.text.specs.Inner.Compiled.{answer_listing}
-use Rattle.quote_text.specs.Numbers.{listing_numbers}
+use mathlib.Core.Path.{sym, ◌∙◌}
+use Rattle.text.proofs.compile.Tables.{mixed-written, kind-written}
+use Rattle.quote_text.proofs.quote.Numbers.{mixed-numbers, kind-numbers}
 use Rattle.quote_text.proofs.quote.quote_table.Goals as goal
 
-pub quote_mixed-requires : goal.quote_mixed-requires
-quote_mixed-requires c =
-    subst (λ (d : Design). Accepted d c.args.table.now) (mixed-design _ _ _ c.in-Mixed.is) c.requires
+pub listing_length-requires : goal.listing_length-requires
+listing_length-requires c = (mixed-written _ _ c.requires _ _ (sym c.answer_of.ensures ∙ c.in-Mixed.is)).0
 
-pub quote_kind-requires : goal.quote_kind-requires
-quote_kind-requires c =
-    subst (λ (d : Design). Accepted d c.args.table.now) (kronecker-design _ c.in-Kronecker.is c.requires.sized) c.requires
+pub kronecker_length-requires : goal.kronecker_length-requires
+kronecker_length-requires c = (kind-written _ _ c.requires _ _ _ (sym c.answer_of.ensures ∙ c.in-Kronecker.is)).0
 
 pub returns-in-Mixed : goal.returns-in-Mixed
-returns-in-Mixed c =
-    let a = c.args in
-    c.quote_mixed.ensures
-    ∙ ap (λ (d : Design). listing_numbers (answer_listing d a.table.now)) (sym (mixed-design _ _ _ c.in-Mixed.is))
+returns-in-Mixed c = mixed-numbers _ _ c.requires _ _ _ (sym c.answer_of.ensures ∙ c.in-Mixed.is) c.listing_length.ensures
 
 pub returns-in-Kronecker : goal.returns-in-Kronecker
-returns-in-Kronecker c =
-    c.quote_kind.ensures
-    ∙ ap (λ (d : Design). listing_numbers (answer_listing d c.args.table.now)) (sym (kronecker-design _ c.in-Kronecker.is c.requires.sized))
+returns-in-Kronecker c = kind-numbers _ _ c.requires _ _ _ _ (sym c.answer_of.ensures ∙ c.in-Kronecker.is) c.kronecker_length.ensures

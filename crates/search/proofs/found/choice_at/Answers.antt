@@ -46,10 +46,10 @@ bounds c =
     let z = c.args.sizes in
     (omega (arith, below (goal.at.Else-j-eq0 c).Else-count-j, pow_mono {i = z.n - z.k} {j = 8} (omega (arith, c.requires.limits.inputs))), omega (arith, below (goal.at.Else-j-eq0 c).Else-count-j, c.requires.lanes_len))
 
-pub cheapest_apart-least-requires : goal.cheapest_apart-least-requires
-cheapest_apart-least-requires c =
+pub cheapest_block-least-requires : goal.cheapest_block-least-requires
+cheapest_block-least-requires c =
     let p = c.requires in
-    record { rows = (p.rows, (bounds (goal.at.cheapest_apart-least-requires c).Else-j-eq0).0, (bounds (goal.at.cheapest_apart-least-requires c).Else-j-eq0).1); limits = (p.limits, sym c.apart.ensures ∙ c.if-apart.true) }
+    record { rows = (p.rows, (bounds (goal.at.cheapest_block-least-requires c).Else-j-eq0).0, (bounds (goal.at.cheapest_block-least-requires c).Else-j-eq0).1); limits = (p.limits, sym c.apart.ensures ∙ c.if-apart.true) }
 
 -- the first least choice by either charge is the same
 other : (c : Else-j-eq0) (x : ℕ) → let a = c.args in let z = a.sizes in
@@ -64,12 +64,12 @@ other c x e =
     ∙ sym (only_below _ _ _ (below (goal.at.Else-j-eq0 c).Else-count-j))
 
 pub returns-then-apart : goal.returns-then-apart
-returns-then-apart c = other (goal.at.returns-then-apart c).Else-j-eq0 _ c.cheapest_apart-least.ensures.choice
+returns-then-apart c = other (goal.at.returns-then-apart c).Else-j-eq0 _ c.cheapest_block-least.ensures.choice
 
-pub cheapest_block-least-requires : goal.cheapest_block-least-requires
-cheapest_block-least-requires c =
+pub cheapest_block-least-requires-2 : goal.cheapest_block-least-requires-2
+cheapest_block-least-requires-2 c =
     let p = c.requires in
-    record { rows = (p.rows, (bounds (goal.at.cheapest_block-least-requires c).Else-j-eq0).0, (bounds (goal.at.cheapest_block-least-requires c).Else-j-eq0).1); limits = (p.limits, sym c.apart.ensures ∙ c.if-apart.false) }
+    record { rows = (p.rows, (bounds (goal.at.cheapest_block-least-requires-2 c).Else-j-eq0).0, (bounds (goal.at.cheapest_block-least-requires-2 c).Else-j-eq0).1); limits = (p.limits, sym c.apart.ensures ∙ c.if-apart.false) }
 
 pub returns : goal.returns
-returns c = other (goal.at.returns c).Else-j-eq0 _ c.cheapest_block-least.ensures.choice
+returns c = other (goal.at.returns c).Else-j-eq0 _ c.cheapest_block-least-2.ensures.choice

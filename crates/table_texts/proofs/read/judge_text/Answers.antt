@@ -4,10 +4,11 @@ use Prim.Native.Nat.{ℕ, ◌<◌}
 use native.Mathlib.Omega.{arith}
 use lib.ListN.{length}
 use lib.Seq.{length-take-le}
+use Rattle.std.proofs.Common.{rules}
 use Rattle.listings.specs.Inner.Stops.{stop}
+use Rattle.listings.proofs.Parts.{stop_le}
 use Rattle.table_texts.specs.Inner.Reading.{stands_for}
 use Rattle.table_texts.proofs.read.Accepted.{first-sized}
-use Rattle.listings.proofs.Parts.{stop_le}
 use Rattle.table_texts.proofs.read.Steps.{text-unfinished, text-judged}
 use Rattle.table_texts.proofs.read.judge_text.Goals as goal
 use Rattle.table_texts.proofs.read.judge_text.Goals.{After-next_line, After-seek-stop, Else-to-text}
@@ -29,42 +30,35 @@ second-line : (c : After-next_line) → c.next_line.result.line ≡ 2
 second-line c =
     omega (arith, first-line (goal.at.After-next_line c).After-seek-stop, c.next_line.ensures.1)
 
-pub slice_bounds-unfinished-end : goal.slice_bounds-unfinished-end
-slice_bounds-unfinished-end c = sym (length-take-le _ _ (omega arith))
-
 pub returns-then-to-text : goal.returns-then-to-text
 unfolding stands_for
 returns-then-to-text c =
-    rw (c.unfinished.ensures, first-line (goal.at.returns-then-to-text c).After-seek-stop) (sym (text-unfinished _ _ (first-stop (goal.at.returns-then-to-text c).After-seek-stop) (omega arith)))
+    let at = (goal.at.returns-then-to-text c).After-seek-stop in
+    rw (c.at.ensures, c.unfinished.ensures, first-line at) (sym (text-unfinished _ _ (first-stop at) (omega arith)))
 
 pub slice_bounds-judge_first-end : goal.slice_bounds-judge_first-end
 slice_bounds-judge_first-end c = sym (length-take-le _ _ (omega (arith, before-end c)))
 
-pub judge_first-requires : goal.judge_first-requires
-judge_first-requires c = first-line (goal.at.judge_first-requires c).After-seek-stop
-
-pub next_line-requires : goal.next_line-requires
-next_line-requires c =
-    omega (arith, before-end (goal.at.next_line-requires c).Else-to-text, first-line (goal.at.next_line-requires c).After-seek-stop)
+pub returns-in_err-design : goal.returns-in_err-design
+unfolding stands_for
+returns-in_err-design c =
+    let same : c.from_residual.result ≡ c.judge_first.result = search rules in
+    rw same
+    (sym
+    (text-judged _ _ (first-stop (goal.at.returns-in_err-design c).After-seek-stop) (before-end (goal.at.returns-in_err-design c).Else-to-text)
+    ∙ rw (← c.judge_first.ensures, c.in_err-design.was)))
 
 pub judge_points-requires : goal.judge_points-requires
 judge_points-requires c =
-    let limits = first-sized _ _ (sym c.judge_first.ensures ∙ c.in-Given.is) in
+    let limits = first-sized _ _ (sym c.judge_first.ensures ∙ c.in_ok-design.was) in
     let at = c.next_line.ensures.0 in
     let line = second-line (goal.at.judge_points-requires c).After-next_line in
     (record { inside = omega (arith, before-end (goal.at.judge_points-requires c).Else-to-text, at); counted = omega (arith, at) }, limits.inputs.1, limits.outputs.1)
 
-pub returns-in-Given : goal.returns-in-Given
-returns-in-Given c =
+pub returns : goal.returns
+returns c =
     c.judge_points.ensures
-    ∙ rw (c.next_line.ensures.0, second-line (goal.at.returns-in-Given c).After-next_line, c.requires)
+    ∙ rw (c.next_line.ensures.0, second-line (goal.at.returns c).After-next_line, c.requires)
     (sym
-    (text-judged _ _ (first-stop (goal.at.returns-in-Given c).After-seek-stop) (before-end (goal.at.returns-in-Given c).Else-to-text)
-    ∙ rw (← c.judge_first.ensures, c.in-Given.is)))
-
-pub returns-in-Refused : goal.returns-in-Refused
-unfolding stands_for
-returns-in-Refused c =
-    sym
-    (text-judged _ _ (first-stop (goal.at.returns-in-Refused c).After-seek-stop) (before-end (goal.at.returns-in-Refused c).Else-to-text)
-    ∙ rw (← c.judge_first.ensures, c.in-Refused.is))
+    (text-judged _ _ (first-stop (goal.at.returns c).After-seek-stop) (before-end (goal.at.returns c).Else-to-text)
+    ∙ rw (← c.judge_first.ensures, c.in_ok-design.was)))

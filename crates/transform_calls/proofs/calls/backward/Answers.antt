@@ -1,11 +1,11 @@
 -- `backward` meets its contract.
 use mathlib.Core.Path.{sym, ◌∙◌}
+use Rattle.numbers.proofs.refusals.Judging.{passed_up}
 use Rattle.transform_calls.proofs.calls.Meaning.{backward-done, backward-refused}
 use Rattle.transform_calls.proofs.calls.backward.Goals as goal
 
-pub returns-then-number-ne0 : goal.returns-then-number-ne0
-returns-then-number-ne0 c = backward-refused _ _ _ _ _ _ c.first_refusal-number.ensures c.if-number-ne0.true
+pub returns-in_err-judge : goal.returns-in_err-judge
+returns-in_err-judge c = backward-refused _ _ _ _ _ _ _ (sym c.judge.ensures ∙ c.in_err-judge.was) (passed_up _ _ c.from_residual.ensures.1)
 
 pub returns : goal.returns
-returns c =
-    backward-done _ _ _ _ _ _ (sym c.first_refusal-number.ensures ∙ c.if-number-ne0.false) c.values_into.ensures
+returns c = backward-done _ _ _ _ _ _ (sym c.judge.ensures ∙ c.in_ok-judge.was) c.values_into.ensures

@@ -1,0 +1,48 @@
+-- Where the terms of the block choose apart the first least is the lesser of those of the two halves.
+use mathlib.Core.Bool.{true, false, cond, not}
+use borrow.Author.Tests.{ne_eqb}
+use mathlib.Core.Path.{◌≡◌, refl, ap, ◌∙◌}
+use Prim.Native.Nat.{ℕ, ◌<◌}
+use lib.Dec.{lit<}
+use Rattle.numbers.specs.Bytes.{at}
+use Rattle.expansions.specs.Classes.{apart}
+use Rattle.lanes.proofs.expand.Room.{few}
+use Rattle.charges.specs.Inner.Charges.{all_sum}
+use Rattle.charges.proofs.cheapest.Used.{first-half}
+use Rattle.charges.proofs.cheapest.Choices.{choices-counted-some, choices-counted-le, least-counted, least_zero, least_lt}
+use Rattle.charges.proofs.cheapest.least_of.Goals as goal
+use Rattle.charges.proofs.cheapest.least_of.Goals.{Then-this-ne0}
+use Rattle.charges.proofs.cheapest.least_of.Given.{Over}
+
+-- there are sixteen choices
+both : (g : Over) (c : Then-this-ne0 g) → apart c.args.sizes.class c.args.sizes.k ≡ true
+both g c = c.requires.limits.1 ∙ ap not (ne_eqb g.row.APART 0 c.if-this-ne0.true)
+
+second-half : (g : Over) (c : Then-this-ne0 g) → 1 < cond (apart c.args.sizes.class c.args.sizes.k) 2 1
+second-half g c = rw (both g c) (lit< tt)
+
+pub lesser-requires : goal.lesser-requires
+lesser-requires g c =
+    let z = c.args.sizes in
+    least_lt 8 (lit< tt) _ _ (c.least_from-last.ensures z.class z.k c.requires.rows.0 (second-half g (goal.at.lesser-requires g c).Then-this-ne0))
+
+pub returns-then-this-ne0 : goal.returns-then-this-ne0
+returns-then-this-ne0 g c =
+    let z = c.args.sizes in
+    let start = (goal.at.returns-then-this-ne0 g c).Then-this-ne0 in
+    let sums : ℕ → ℕ = all_sum z.class z.k (at c.args.lanes.now) c.args.j in
+    let first = least_zero 8 (lit< tt) sums _ (c.least_from-first.ensures z.class z.k c.requires.rows.0 (first-half z.class z.k)) in
+    let last = c.least_from-last.ensures z.class z.k c.requires.rows.0 (second-half g start) in
+    rw (both g start) (c.lesser.ensures sums first last)
+
+pub least_from-requires : goal.least_from-requires
+least_from-requires g c =
+    let h = few c.args.sizes c.requires.limits.0 in
+    (lit< tt, choices-counted-some c.args.sizes.k h, choices-counted-le c.args.sizes.k h, c.requires.rows.1, c.requires.rows.2)
+
+pub returns : goal.returns
+returns g c =
+    let z = c.args.sizes in
+    let one-half : apart z.class z.k ≡ false = c.requires.limits.1 ∙ rw c.if-this-ne0.false refl in
+    let sums : ℕ → ℕ = all_sum z.class z.k (at c.args.lanes.now) c.args.j in
+    rw one-half (least-counted z.k (few z c.requires.limits.0) sums _ (c.least_from.ensures z.class z.k c.requires.rows.0 (first-half z.class z.k)))

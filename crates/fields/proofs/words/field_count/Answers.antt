@@ -1,8 +1,0 @@
--- `field_count` meets its contract: the fields of a line are its parts at tabs.
-use borrow.Author.Rules.{rules}
-use Rattle.listings.specs.Parts.{fields}
-use Rattle.fields.proofs.words.field_count.Goals as goal
-
-pub returns : goal.returns
-unfolding fields
-returns c = search rules
