@@ -19,25 +19,25 @@ use Rattle.expansions.proofs.BlockCharges.{block_charge-byte, pair_charge-small}
 use Rattle.expansions.proofs.Classes.{choices-some}
 use Rattle.expansions.proofs.Minimal.{least_choice-ext, pair_charge-ext}
 use Rattle.lanes.specs.Inner.Lanes.{block_lanes}
-use Rattle.lanes.specs.Inner.Sizes.{Limits, MixedSet}
+use Rattle.lanes.specs.Inner.Sizes.{MixedSet}
 use Rattle.charges.specs.Inner.Charges.{used_at, charge_from}
 use Rattle.lanes.specs.declared.sizes.Sizes.{Sizes}
 use Rattle.lanes.proofs.expand.Held.{held-plane, held-coefficient}
 
 -- ---- the charges of a pair, from its block functions
 
-module _ (s : Sizes) (M i : ℕ) (f : ℕ → ℕ) (lanes : List ℕ) (limits : Limits s) (outputs : (p : ℕ) → p < 2 ^ s.n → f p < 2 ^ 8)
+module _ (s : Sizes) (M i : ℕ) (f : ℕ → ℕ) (lanes : List ℕ) (outputs : (p : ℕ) → p < 2 ^ s.n → f p < 2 ^ 8)
     (set : MixedSet s M) (held : lanes ≡ block_lanes s.n s.k M (gather s.n (outside s.n M) i) f) where
   held-used : (j x : ℕ) → j < 2 ^ (s.n - s.k) → used_at s.class s.k (at lanes) j x ≡ used 8 s.class s.k x (block_function s.n s.k f M i j)
   unfolding used_at used
-  held-used j x h = fold-ext bit_or 8 _ _ (λ o l. ap (λ (g : ℕ). choice_entry s.class s.k g x) (held-plane s M i f lanes limits outputs set held o j l h))
+  held-used j x h = fold-ext bit_or 8 _ _ (λ o l. ap (λ (g : ℕ). choice_entry s.class s.k g x) (held-plane s M i f lanes outputs set held o j l h))
 
   pub held-charge : (j x : ℕ) → j < 2 ^ (s.n - s.k) → x < choices s.class s.k
       → charge_from s.class s.k s.family (at lanes) j x ≡ block_charge s.class (rule_of s.family) s.n s.k f M i j x
   held-charge j x hj hx =
       ap₂ (λ (u v : ℕ). used_charge (rule_of s.family) (ones j) (charged_terms j u) * 256 + constant_in j v) (held-used j x hj)
-      (held-coefficient s M i f lanes limits outputs set held j 0 x hj (pow_pos s.k) hx)
-      ∙ sym (block_charge-byte s.class (rule_of s.family) 8 s.n s.k f M i j x limits.mixed hx set.size outputs)
+      (held-coefficient s M i f lanes outputs set held j 0 x hj (pow_pos s.k) hx)
+      ∙ sym (block_charge-byte s.class (rule_of s.family) 8 s.n s.k f M i j x s.mixed hx set.size outputs)
 
   pub held-choice : (j : ℕ) → j < 2 ^ (s.n - s.k)
       → least_choice (choices s.class s.k) (charge_from s.class s.k s.family (at lanes) j)
@@ -51,7 +51,7 @@ module _ (s : Sizes) (M i : ℕ) (f : ℕ → ℕ) (lanes : List ℕ) (limits : 
       held-charge
 
 -- a pair costs less than the charge that stands for no pair, 2 ^ 32 - 1
-pub pair_charge-lt : (s : Sizes) (f : ℕ → ℕ) (M i : ℕ) → Limits s → MixedSet s M → ((p : ℕ) → p < 2 ^ s.n → f p < 2 ^ 8)
+pub pair_charge-lt : (s : Sizes) (f : ℕ → ℕ) (M i : ℕ) → MixedSet s M → ((p : ℕ) → p < 2 ^ s.n → f p < 2 ^ 8)
     → pair_charge s.n s.k (choices s.class s.k) (block_charge s.class (rule_of s.family) s.n s.k f M i) < 2 ^ 31
-pair_charge-lt s f M i limits set outputs =
-    pair_charge-small s.class s.family s.n s.k f M i limits.inputs limits.within set.size outputs
+pair_charge-lt s f M i set outputs =
+    pair_charge-small s.class s.family s.n s.k f M i s.inputs s.within set.size outputs

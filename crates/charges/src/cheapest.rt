@@ -12,13 +12,12 @@ ghost use Rattle.expansions.specs.BlockTable.{Rows};
 ghost use Rattle.expansions.specs.Rules.{rule_of};
 ghost use Rattle.expansions.specs.Inner.Charges.{small_sum, sum_charge};
 ghost use Rattle.charges.specs.Inner.Charges.{used_at, charge_from, all_from, all_sum, masked_sum, compared, IsLeastSum, IsCheapest};
-ghost use Rattle.lanes.specs.Inner.Sizes.{Limits};
 ghost use Rattle.lanes.specs.Inner.Terms.{coefficient_in};
 
 use blocks::rows::ROWS;
 use expansions::families::{Family, weights_of};
 use expansions::kinds::apart;
-use lanes::sizes::Sizes;
+use lanes::sizes::Search;
 
 // The literal count of each of the eight terms.
 const LITERALS: [u8; 8] = [0, 1, 1, 2, 1, 2, 2, 3];
@@ -167,29 +166,27 @@ fn least_first_from(rows: &[u64; ROWS], half: usize, count: u8, lanes: &[u8]) ->
 }
 
 // The least sum of block 0, each with its mask, of all its choices.
-fn least_first(rows: &[u64; ROWS], sizes: Sizes, lanes: &[u8]) -> LeastSum
-    requires rows { Rows sizes.class sizes.k rows.now × (8 ≤ length lanes.now) }
-    requires limits { Limits sizes }
-    ensures { IsLeastSum (choices sizes.class sizes.k) (masked_sum sizes.class sizes.k (at lanes.now)) result }
+fn least_first(search: &Search, lanes: &[u8]) -> LeastSum
+    requires { 8 ≤ length lanes.now }
+    ensures { let s = search.now.sizes in IsLeastSum (choices s.class s.k) (masked_sum s.class s.k (at lanes.now)) result }
 {
-    if apart(sizes.class, sizes.k) {
-        let low = least_first_from(rows, 0, 8, lanes);
-        let high = least_first_from(rows, 1, 8, lanes);
+    if apart(search.sizes.class, search.sizes.k) {
+        let low = least_first_from(&search.rows, 0, 8, lanes);
+        let high = least_first_from(&search.rows, 1, 8, lanes);
         return lesser(low, high);
     }
-    least_first_from(rows, 0, 1 << sizes.k, lanes)
+    least_first_from(&search.rows, 0, 1 << search.sizes.k, lanes)
 }
 
 // The first least choice of block 0, from the block functions, and what the block costs under it. Block 0 has the constant, whose coefficient costs
 // nothing but its place in the order of masks.
-pub fn cheapest_first(rows: &[u64; ROWS], sizes: Sizes, lanes: &[u8]) -> Cheapest
-    requires rows { Rows sizes.class sizes.k rows.now × (8 ≤ length lanes.now) }
-    requires limits { Limits sizes }
-    ensures { IsCheapest (choices sizes.class sizes.k) (charge_from sizes.class sizes.k sizes.family (at lanes.now) 0) result }
+pub fn cheapest_first(search: &Search, lanes: &[u8]) -> Cheapest
+    requires { 8 ≤ length lanes.now }
+    ensures { let s = search.now.sizes in IsCheapest (choices s.class s.k) (charge_from s.class s.k s.family (at lanes.now) 0) result }
 {
-    let least = least_first(rows, sizes, lanes);
+    let least = least_first(search, lanes);
     Cheapest {
-        charge: sum_charge(sizes.family, 0, least.sum >> 8) * 256 + (least.sum & 255),
+        charge: sum_charge(search.sizes.family, 0, least.sum >> 8) * 256 + (least.sum & 255),
         choice: least.choice,
     }
 }
@@ -204,34 +201,29 @@ fn least_from(rows: &[u64; ROWS], half: usize, count: u8, lanes: &[u8], j: usize
 
 // The least sum of block j, all its terms summed, of all its choices. Whether the terms of a block choose apart is told as a constant, so that a loop
 // over the blocks is compiled for each of the two by itself.
-fn least_of<const APART: bool>(rows: &[u64; ROWS], sizes: Sizes, lanes: &[u8], j: usize) -> LeastSum
-    requires rows { Rows sizes.class sizes.k rows.now × (j < 256) × (j * 8 + 8 ≤ length lanes.now) }
-    requires limits { Limits sizes × (apart sizes.class sizes.k ≡ APART) }
-    ensures { IsLeastSum (choices sizes.class sizes.k) (all_sum sizes.class sizes.k (at lanes.now) j) result }
+fn least_of<const APART: bool>(search: &Search, lanes: &[u8], j: usize) -> LeastSum
+    requires block { (j < 256) × (j * 8 + 8 ≤ length lanes.now) }
+    requires told { apart search.now.sizes.class search.now.sizes.k ≡ APART }
+    ensures { let s = search.now.sizes in IsLeastSum (choices s.class s.k) (all_sum s.class s.k (at lanes.now) j) result }
 {
     if APART {
-        let first = least_from(rows, 0, 8, lanes, j);
-        let last = least_from(rows, 1, 8, lanes, j);
+        let first = least_from(&search.rows, 0, 8, lanes, j);
+        let last = least_from(&search.rows, 1, 8, lanes, j);
         return lesser(first, last);
     }
-    least_from(rows, 0, 1 << sizes.k, lanes, j)
+    least_from(&search.rows, 0, 1 << search.sizes.k, lanes, j)
 }
 
 // The first least choice of block j, from the block functions, and what the block costs under it, all its terms charged. It is asked of the blocks other
 // than block 0, where a pair's charge has 256 times that.
-pub fn cheapest_block<const APART: bool>(
-    rows: &[u64; ROWS],
-    sizes: Sizes,
-    lanes: &[u8],
-    j: usize,
-) -> Cheapest
-    requires rows { Rows sizes.class sizes.k rows.now × (j < 256) × (j * 8 + 8 ≤ length lanes.now) }
-    requires limits { Limits sizes × (apart sizes.class sizes.k ≡ APART) }
-    ensures { IsCheapest (choices sizes.class sizes.k) (all_from sizes.class sizes.k sizes.family (at lanes.now) j) result }
+pub fn cheapest_block<const APART: bool>(search: &Search, lanes: &[u8], j: usize) -> Cheapest
+    requires block { (j < 256) × (j * 8 + 8 ≤ length lanes.now) }
+    requires told { apart search.now.sizes.class search.now.sizes.k ≡ APART }
+    ensures { let s = search.now.sizes in IsCheapest (choices s.class s.k) (all_from s.class s.k s.family (at lanes.now) j) result }
 {
-    let least = least_of::<APART>(rows, sizes, lanes, j);
+    let least = least_of::<APART>(search, lanes, j);
     Cheapest {
-        charge: sum_charge(sizes.family, literals_outside(j), least.sum),
+        charge: sum_charge(search.sizes.family, literals_outside(j), least.sum),
         choice: least.choice,
     }
 }

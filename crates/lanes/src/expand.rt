@@ -9,7 +9,7 @@ ghost use Rattle.numbers.specs.Words.{word, byte};
 ghost use Rattle.expansions.specs.Split as Split;
 ghost use Rattle.lanes.specs.Inner.LaidOut.{LaidOut, BlockFunctions};
 ghost use Rattle.lanes.specs.Inner.Lanes.{lane_byte, places_byte, lanes_under, block_lanes, NextLanes};
-ghost use Rattle.lanes.specs.Inner.Sizes.{Limits, MixedSet};
+ghost use Rattle.lanes.specs.Inner.Sizes.{MixedSet};
 
 use crate::sizes::{Pair, Sizes};
 use algebra::transform::{change_polarity, coefficients_into};
@@ -63,7 +63,6 @@ fn fill_lanes(table: &[u8], points: &[u8], offsets: &[u8; 8], lanes: &mut [u8])
 
 // Fills `lanes` with the table's outputs by block and place.
 fn lay_out(sizes: Sizes, mixed: usize, table: &[u8], lanes: &mut [u8])
-    requires limits { Limits sizes }
     requires mixed_set { MixedSet sizes mixed }
     requires table_len { (length table.now ≡ 2 ^ sizes.n) × (length lanes.old ≡ 8 * 2 ^ (sizes.n - sizes.k)) }
     ensures lanes_after { lanes.new ≡ tabulate (8 * 2 ^ (sizes.n - sizes.k)) (λ x. places_byte sizes.n sizes.k mixed (at table.now) (x % 8) (x / 8)) }
@@ -87,7 +86,6 @@ fn expand_lanes(r: usize, w: usize, laid: &[u8], lanes: &mut [u8])
 
 // Fills `lanes` with the function of each block of M and i, for each output.
 pub fn expand_blocks(sizes: Sizes, pair: Pair, table: &[u8], lanes: &mut [u8])
-    requires limits { Limits sizes }
     requires mixed_set { MixedSet sizes pair.mixed }
     requires table_len { (length table.now ≡ 2 ^ sizes.n) × (length lanes.old ≡ 8 * 2 ^ (sizes.n - sizes.k)) }
     ensures lanes_after { lanes.new ≡ block_lanes sizes.n sizes.k pair.mixed (Split.gather sizes.n (Split.outside sizes.n pair.mixed) pair.fixed) (at table.now) }

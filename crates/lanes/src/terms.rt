@@ -5,10 +5,10 @@ ghost use Rattle.numbers.specs.Bytes.{at, tabulate};
 ghost use Rattle.expansions.specs.declared.kinds.Class.{Class};
 ghost use Rattle.expansions.specs.Classes.{apart};
 ghost use Rattle.expansions.specs.BlockTable.{Rows};
-ghost use Rattle.lanes.specs.Inner.Sizes.{Limits, MixedSet};
+ghost use Rattle.lanes.specs.Inner.Sizes.{MixedSet};
 ghost use Rattle.lanes.specs.Inner.Terms.{coefficient_in, coefficient_at};
 
-use crate::sizes::Sizes;
+use crate::sizes::{Search, Sizes};
 use blocks::rows::ROWS;
 use points::split::split;
 
@@ -29,44 +29,44 @@ fn coefficient_in(rows: &[u64; ROWS], lanes: &[u8], j: usize, s: usize, choice: 
 
 // The coefficient of the term t, and 0 where there is no term t.
 fn coefficient_at(
-    rows: &[u64; ROWS],
-    sizes: Sizes,
+    search: &Search,
     mixed: usize,
     lanes: &[u8],
     chosen: &[u8; Sizes::PLACES],
     t: usize,
 ) -> u8
-    requires rows { Rows sizes.class sizes.k rows.now }
-    requires limits { Limits sizes }
-    requires mixed_set { MixedSet sizes mixed × (length lanes.now ≡ 8 * 2 ^ (sizes.n - sizes.k)) }
-    requires by_index { (j : ℕ) → at chosen.now j < cond (apart sizes.class sizes.k) 16 8 }
-    ensures { result ≡ coefficient_at sizes.class sizes.n sizes.k mixed (at lanes.now) (at chosen.now) t }
+    requires mixed_set { MixedSet search.now.sizes mixed × (length lanes.now ≡ 8 * 2 ^ (search.now.sizes.n - search.now.sizes.k)) }
+    requires by_index { (j : ℕ) → at chosen.now j < cond (apart search.now.sizes.class search.now.sizes.k) 16 8 }
+    ensures { let s = search.now.sizes in result ≡ coefficient_at s.class s.n s.k mixed (at lanes.now) (at chosen.now) t }
 {
-    let all: usize = 1 << sizes.n;
+    let all: usize = 1 << search.sizes.n;
     if all <= t {
         return 0;
     }
-    let parts = split(sizes.n, mixed, t);
-    coefficient_in(rows, lanes, parts.block, parts.place, chosen[parts.block])
+    let parts = split(search.sizes.n, mixed, t);
+    coefficient_in(
+        &search.rows,
+        lanes,
+        parts.block,
+        parts.place,
+        chosen[parts.block],
+    )
 }
 
 // The coefficient of each term, from the block functions and the choice of each block.
 pub fn coefficients(
-    rows: &[u64; ROWS],
-    sizes: Sizes,
+    search: &Search,
     mixed: usize,
     lanes: &[u8],
     chosen: &[u8; Sizes::PLACES],
 ) -> [u8; Sizes::PLACES]
-    requires rows { Rows sizes.class sizes.k rows.now }
-    requires limits { Limits sizes }
-    requires mixed_set { MixedSet sizes mixed × (length lanes.now ≡ 8 * 2 ^ (sizes.n - sizes.k)) }
-    requires by_index { (j : ℕ) → at chosen.now j < cond (apart sizes.class sizes.k) 16 8 }
-    ensures { result ≡ tabulate 256 (coefficient_at sizes.class sizes.n sizes.k mixed (at lanes.now) (at chosen.now)) }
+    requires mixed_set { MixedSet search.now.sizes mixed × (length lanes.now ≡ 8 * 2 ^ (search.now.sizes.n - search.now.sizes.k)) }
+    requires by_index { (j : ℕ) → at chosen.now j < cond (apart search.now.sizes.class search.now.sizes.k) 16 8 }
+    ensures { let s = search.now.sizes in result ≡ tabulate 256 (coefficient_at s.class s.n s.k mixed (at lanes.now) (at chosen.now)) }
 {
     let mut all = [0u8; Sizes::PLACES];
     for (t, coefficient) in all.iter_mut().enumerate() {
-        *coefficient = coefficient_at(rows, sizes, mixed, lanes, chosen, t);
+        *coefficient = coefficient_at(search, mixed, lanes, chosen, t);
     }
     all
 }

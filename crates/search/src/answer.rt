@@ -1,7 +1,6 @@
 // The minimising search: it hands up the expansion record of the answer of a class and a family.
 ghost use Rattle.std.specs.Prelude.{◌≡◌};
 ghost use Rattle.numbers.specs.Bytes.{at};
-ghost use Rattle.lanes.specs.Inner.Sizes.{Limits};
 ghost use Rattle.search.specs.Found.{Found};
 ghost use Rattle.search.specs.Inner.Answer.{answer_expansion, searchable};
 ghost use Rattle.pairs.specs.Inner.Pairs.{Given};
@@ -11,19 +10,21 @@ use crate::found::expansion_of;
 use blocks::rows::rows_of;
 use expansions::families::Family;
 use expansions::kinds::{Class, most_mixed};
-use lanes::sizes::Sizes;
+use lanes::sizes::{Search, Sizes};
 use numbers::refusals::{is_table, judge_sizes};
 use pairs::leader::first_least;
 
 // The record of the answer. The number of outputs is not needed: an output that there is not is zero at every point.
 fn search_allowed(sizes: Sizes, table: &[u8]) -> Expansion
-    requires limits { Limits sizes }
-    requires given { Given sizes.n table.now }
+    requires { Given sizes.n table.now }
     ensures { result ≡ answer_expansion sizes.class sizes.family sizes.n sizes.k (at table.now) }
 {
-    let rows = rows_of(sizes.class, sizes.k);
-    let leader = first_least(&rows, sizes, table);
-    expansion_of(&rows, sizes, table, leader)
+    let search = Search {
+        sizes,
+        rows: rows_of(sizes.class, sizes.k),
+    };
+    let leader = first_least(&search, table);
+    expansion_of(&search, table, leader)
 }
 
 // Whether the bytes are a table of n inputs and m outputs and k is none that the documents refuse beside them.

@@ -21,7 +21,7 @@ use Rattle.expansions.proofs.BlockTable.{plane-coefficient, entry-outputs}
 use Rattle.expansions.proofs.Blocks.{block_function-lt}
 use Rattle.expansions.proofs.Split.{ones-others, gather-lt}
 use Rattle.lanes.specs.Inner.Lanes.{places_byte, lanes_under, block_lanes}
-use Rattle.lanes.specs.Inner.Sizes.{Limits, MixedSet}
+use Rattle.lanes.specs.Inner.Sizes.{MixedSet}
 use Rattle.lanes.specs.Inner.Terms.{coefficient_in}
 use Rattle.lanes.specs.declared.sizes.Sizes.{Sizes}
 
@@ -42,7 +42,7 @@ fixed-lt n k M i e = rw (← (ones-others n k M e)) (gather-lt n (outside n M) i
 
 -- ---- the block functions of a pair
 
-module _ (s : Sizes) (M i : ℕ) (f : ℕ → ℕ) (lanes : List ℕ) (limits : Limits s) (outputs : (p : ℕ) → p < 2 ^ s.n → f p < 2 ^ 8)
+module _ (s : Sizes) (M i : ℕ) (f : ℕ → ℕ) (lanes : List ℕ) (outputs : (p : ℕ) → p < 2 ^ s.n → f p < 2 ^ 8)
     (set : MixedSet s M) (held : lanes ≡ block_lanes s.n s.k M (gather s.n (outside s.n M) i) f) where
   pub held-plane : (o j : ℕ) → o < 8 → j < 2 ^ (s.n - s.k) → at lanes (j * 8 + o) ≡ plane s.k (block_function s.n s.k f M i j) o
   unfolding places_byte block_function
@@ -56,5 +56,5 @@ module _ (s : Sizes) (M i : ℕ) (f : ℕ → ℕ) (lanes : List ℕ) (limits : 
   unfolding coefficient_in
   held-coefficient j r x hj hr hx =
       pack-ext 8 _ _ (λ o l. ap (λ (g : ℕ). bit r (choice_entry s.class s.k g x)) (held-plane o j l hj))
-      ∙ entry-outputs 8 s.class s.k x (block_function s.n s.k f M i j) limits.mixed hx
+      ∙ entry-outputs 8 s.class s.k x (block_function s.n s.k f M i j) s.mixed hx
       (λ p l. block_function-lt 8 s.n s.k M i f outputs set.size j p) r hr

@@ -27,7 +27,7 @@ use Rattle.expansions.specs.Inner.Planes.{plane}
 use Rattle.expansions.proofs.Split.{spread-lt, spread-mod, join-lt}
 use Rattle.lanes.specs.Inner.LaidOut.{LaidOut, BlockFunctions}
 use Rattle.lanes.specs.Inner.Lanes.{lane_byte, places_byte, lanes_under, block_lanes}
-use Rattle.lanes.specs.Inner.Sizes.{Limits, MixedSet}
+use Rattle.lanes.specs.Inner.Sizes.{MixedSet}
 use Rattle.lanes.specs.declared.sizes.Sizes.{Sizes}
 use Rattle.lanes.proofs.expand.Held.{fixed-lt}
 use Rattle.lanes.proofs.expand.LaidOut.{blocks-in-words}
@@ -59,15 +59,15 @@ laid_more table points offsets lanes run bytes q point all N room first outputs 
         ∙ ap₂ (λ (p x : ℕ). lane_byte table p offsets x) (first ∙ ap (at points) block) output
 
 -- the first point of each block, in the lent part of an array
-module _ (s : Sizes) (M mask : ℕ) (xs : List ℕ) (limits : Limits s) (others : mask ≡ outside s.n M)
+module _ (s : Sizes) (M mask : ℕ) (xs : List ℕ) (others : mask ≡ outside s.n M)
     (opened : xs ≡ tabulate (length {A = ℕ} (take (1 * 2 ^ (s.n - s.k) % 2 ^ 64) (replicate 256 0))) (spread s.n mask)) where
   pub opened-long : length xs ≡ 1 * 2 ^ (s.n - s.k)
-  opened-long = ap length opened ∙ length-tabulate _ (spread s.n mask) ∙ room-lent 1 s (omega arith) limits
+  opened-long = ap length opened ∙ length-tabulate _ (spread s.n mask) ∙ room-lent 1 s (omega arith)
 
   pub opened-kept : (rest : List ℕ) → take (1 * 2 ^ (s.n - s.k) % 2 ^ 64) (xs ++ rest) ≡ tabulate (2 ^ (s.n - s.k)) (spread s.n (outside s.n M))
   opened-kept rest =
-      room-kept 1 s (omega arith) limits xs rest opened-long ∙ opened
-      ∙ ap₂ (λ (N m : ℕ). tabulate N (spread s.n m)) (room-lent 1 s (omega arith) limits ∙ omega arith) others
+      room-kept 1 s (omega arith) xs rest opened-long ∙ opened
+      ∙ ap₂ (λ (N m : ℕ). tabulate N (spread s.n m)) (room-lent 1 s (omega arith) ∙ omega arith) others
 
 -- the first point of each block and the offset of each place, opened out at the inputs outside M and at those of M
 module _ (s : Sizes) (M : ℕ) (points offsets : List ℕ) (set : MixedSet s M)

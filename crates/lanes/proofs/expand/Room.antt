@@ -9,19 +9,18 @@ use lib.ListN.{length, take, replicate, length-replicate, length-append}
 use lib.Seq.{length-take-le, take_at}
 use lib.Pow.{pow_mono}
 use Rattle.expansions.proofs.Classes.{most-three}
-use Rattle.lanes.specs.Inner.Sizes.{Limits}
 use Rattle.lanes.specs.declared.sizes.Sizes.{Sizes}
 
 -- whatever the class
-pub few : (s : Sizes) → Limits s → s.k ≤ 3
-few s limits = omega (arith, limits.mixed, most-three s.class)
+pub few : (s : Sizes) → s.k ≤ 3
+few s = omega (arith, s.mixed, most-three s.class)
 
-pub blocks-le : (s : Sizes) → Limits s → s.n - s.k ≤ 8
-blocks-le s limits = omega (arith, limits.inputs)
+pub blocks-le : (s : Sizes) → s.n - s.k ≤ 8
+blocks-le s = omega (arith, s.inputs)
 
-module _ (a : ℕ) (s : Sizes) (few : a ≤ 8) (limits : Limits s) where
+module _ (a : ℕ) (s : Sizes) (few : a ≤ 8) where
   pub room-le : a * 2 ^ (s.n - s.k) ≤ a * 256
-  room-le = let same : a ≤ a = omega arith in mul-le-mul same (pow_mono {j = 8} (blocks-le s limits))
+  room-le = let same : a ≤ a = omega arith in mul-le-mul same (pow_mono {j = 8} (blocks-le s))
 
   -- as the code computes it
   pub room-shifted : a * 2 ^ (s.n - s.k) % 2 ^ 64 ≡ a * 2 ^ (s.n - s.k)

@@ -14,7 +14,7 @@ use Rattle.expansions.proofs.Split.{gather-zero, gather-spread, ones-others}
 use Rattle.charges.proofs.Held.{held-pair, pair_charge-lt}
 use Rattle.pairs.proofs.leader.Leading.{Tried, tried-none, tried-next, tried-all}
 use Rattle.lanes.specs.Inner.Lanes.{lanes_under, block_lanes, places_byte}
-use Rattle.lanes.specs.Inner.Sizes.{Limits, MixedSet}
+use Rattle.lanes.specs.Inner.Sizes.{MixedSet}
 use Rattle.pairs.specs.Inner.Pairs.{Given, pair_from, led_by, Leads}
 use Rattle.lanes.specs.declared.sizes.Sizes.{Sizes}
 use Rattle.pairs.specs.declared.leader.Leader.{Leader}
@@ -44,12 +44,12 @@ module _ (s : Sizes) (M : ℕ) (table : List ℕ) (count w : ℕ) (lanes : List 
   trying-all h = tried-all s.class s.family s.n s.k M (at table) l set.size w (omega (arith, t.all, t.within)) t.led
 
   -- one polarity more
-  pub trying-next : Limits s → Given s.n table → w < count → (lanes' : List ℕ) (l' : Leader)
+  pub trying-next : Given s.n table → w < count → (lanes' : List ℕ) (l' : Leader)
       → l' ≡ led_by (pair_from s (at lanes)) (M * 2 ^ s.n + spread s.n (outside s.n M) w) l
       → length lanes' ≡ length lanes
       → ((g : ℕ → ℕ → ℕ) → suc w < 2 ^ (s.n - s.k) → lanes ≡ lanes_under (s.n - s.k) w g → lanes' ≡ lanes_under (s.n - s.k) (suc w) g)
       → Trying s M (at table) count (w + 1) lanes' l'
-  trying-next limits given h lanes' l' e same next =
+  trying-next given h lanes' l' e same next =
       rw (add-one w)
       record {
         all = t.all;
@@ -57,7 +57,7 @@ module _ (s : Sizes) (M : ℕ) (table : List ℕ) (count w : ℕ) (lanes : List 
         long = same ∙ t.long;
         held = λ h'. next (places_byte s.n s.k M (at table)) (omega (arith, t.all)) (t.held h);
         led = rw e (tried-next s.class s.family s.n s.k M (at table) l set.size w _ below cost
-            (omega (arith, cost, pair_charge-lt s (at table) M i limits set (λ p q. given.bytes p))) t.led);
+            (omega (arith, cost, pair_charge-lt s (at table) M i set (λ p q. given.bytes p))) t.led);
       }
     where
       i : ℕ
@@ -70,5 +70,5 @@ module _ (s : Sizes) (M : ℕ) (table : List ℕ) (count w : ℕ) (lanes : List 
       back = gather-spread s.n (outside s.n M) w (rw (ones-others s.n s.k M set.size) below)
 
       cost : pair_from s (at lanes) ≡ pair_charge s.n s.k (choices s.class s.k) (block_charge s.class (rule_of s.family) s.n s.k (at table) M i)
-      cost = held-pair s M i (at table) lanes limits (λ p q. given.bytes p) set
+      cost = held-pair s M i (at table) lanes (λ p q. given.bytes p) set
           (t.held h ∙ ap (λ (x : ℕ). block_lanes s.n s.k M x (at table)) (sym back))

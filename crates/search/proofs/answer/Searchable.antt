@@ -20,7 +20,6 @@ use Rattle.search.specs.declared.expansion.Expansion.{Expansion}
 use Rattle.search.specs.Found.{Found}
 use Rattle.search.specs.Inner.Answer.{answer_expansion, searchable, searched}
 use Rattle.search.proofs.expansion.Answer.{answer_expansion-is}
-use Rattle.lanes.specs.Inner.Sizes.{Limits}
 use Rattle.pairs.specs.Inner.Pairs.{Given}
 
 -- ---- from the test
@@ -30,19 +29,16 @@ module _ (C : Class) (n m k : ℕ) (table : List ℕ) (e : searchable C n m k ta
   unfolding searchable
   is = both_left _ _ e
 
-  sized : Sized n m (most_mixed C) k
+  pub allowed-sized : Sized n m (most_mixed C) k
   unfolding searchable
-  sized = sizes-none n m (most_mixed C) k (ok_passed (sizes_refusal n m (most_mixed C) k) (both_right (is_table n m table) _ e))
-
-  pub allowed-sizes : (F : Family) → Limits (record { n = n; class = C; k = k; family = F })
-  allowed-sizes F = record { inputs = sized.inputs.1; mixed = sized.mixed.0; within = sized.mixed.1 }
+  allowed-sized = sizes-none n m (most_mixed C) k (ok_passed (sizes_refusal n m (most_mixed C) k) (both_right (is_table n m table) _ e))
 
   -- m outputs, of which there are at most eight, are a byte
   pub allowed-table : Given n table
   allowed-table =
       record {
         long = table_long n m table is;
-        bytes = λ p. omega (arith, table_below n m table is p, pow_mono {i = m} {j = 8} sized.outputs.1);
+        bytes = λ p. omega (arith, table_below n m table is p, pow_mono {i = m} {j = 8} allowed-sized.outputs.1);
       }
 
 -- ---- to the answer

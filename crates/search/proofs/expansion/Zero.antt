@@ -27,7 +27,7 @@ use Rattle.expansions.proofs.Costs.{products-zero}
 use Rattle.expansions.proofs.Least.{then-from}
 use Rattle.expansions.proofs.Lowest.{lowest-member, lowest-first}
 use Rattle.expansions.proofs.Answers.{answer-choice-zero, answer-coefficient-zero, answer-only}
-use Rattle.search.proofs.answer.Searchable.{allowed-sizes}
+use Rattle.search.proofs.answer.Searchable.{allowed-sized}
 
 -- ---- no product
 
@@ -88,5 +88,5 @@ unfolding searched
 searched-of-zero C F n m k table zeros = go (searchable C n m k table) refl
   where
     go : (b : Bool) → searchable C n m k table ≡ b → cond b (answer_expansion C F n k (at table)) (empty_expansion k) ≡ empty_expansion k
-    go true e = let sizes = allowed-sizes C n m k table e F in answer-of-zero C F n k (at table) sizes.inputs sizes.within zeros
+    go true e = let sized = allowed-sized C n m k table e in answer-of-zero C F n k (at table) sized.inputs.1 sized.mixed.1 zeros
     go false e = refl

@@ -15,7 +15,6 @@ use Rattle.expansions.specs.Rules.{rule_of}
 use Rattle.expansions.specs.Split.{gather, outside}
 use Rattle.search.specs.Inner.Answer.{answer_expansion}
 use Rattle.lanes.specs.Inner.Lanes.{block_lanes}
-use Rattle.lanes.specs.Inner.Sizes.{Limits}
 use Rattle.lanes.specs.Inner.Terms.{coefficient_at}
 use Rattle.pairs.specs.Inner.Pairs.{Given, Leads}
 use Rattle.search.specs.Inner.Search.{choice_at}
@@ -33,15 +32,15 @@ abbrev pub leader_fixed : ℕ → Leader → ℕ
 leader_fixed n leader = bit_and leader.pair (1 * 2 ^ n % 2 ^ 64 - 1)
 
 -- `lanes` holds the block functions of the leader's M and i, and `blocks` the choices found from them
-module _ (s : Sizes) (table : List ℕ) (leader : Leader) (lanes blocks : List ℕ) (limits : Limits s) (given : Given s.n table)
+module _ (s : Sizes) (table : List ℕ) (leader : Leader) (lanes blocks : List ℕ) (given : Given s.n table)
     (leads : Leads s.class s.family s.n s.k (at table) (2 ^ s.n * 2 ^ s.n) leader)
     (held : lanes ≡ block_lanes s.n s.k (leader_mixed s.n leader) (gather s.n (outside s.n (leader_mixed s.n leader)) (leader_fixed s.n leader)) (at table))
     (found : blocks ≡ tabulate 256 (choice_at s.class s.family s.n s.k (at lanes))) where
   mixed : leader_mixed s.n leader ≡ answer_mixed s.class s.family s.n s.k (at table)
-  mixed = leader-mixed s.class s.family s.n s.k (at table) leader limits.inputs limits.within leads
+  mixed = leader-mixed s.class s.family s.n s.k (at table) leader s.inputs s.within leads
 
   fixed : leader_fixed s.n leader ≡ answer_fixed s.class s.family s.n s.k (at table)
-  fixed = leader-fixed s.class s.family s.n s.k (at table) leader limits.inputs limits.within leads
+  fixed = leader-fixed s.class s.family s.n s.k (at table) leader s.inputs s.within leads
 
   outputs : (p : ℕ) → p < 2 ^ s.n → at table p < 2 ^ 8
   outputs p l = given.bytes p
@@ -51,11 +50,11 @@ module _ (s : Sizes) (table : List ℕ) (leader : Leader) (lanes blocks : List �
   held-answer = rw (mixed, fixed) at held
 
   pub blocks-lt : (j : ℕ) → at blocks j < cond (apart s.class s.k) 16 8
-  blocks-lt j = rw found (chosen-lt s (at table) lanes limits outputs held-answer j)
+  blocks-lt j = rw found (chosen-lt s (at table) lanes outputs held-answer j)
 
   module _ (coefficients : List ℕ) (filled : coefficients ≡ tabulate 256 (coefficient_at s.class s.n s.k (leader_mixed s.n leader) (at lanes) (at blocks))) where
     filled-expanded : coefficients ≡ tabulate 256 (expanded_coefficient s.class s.family s.n s.k (at table))
-    filled-expanded = filled ∙ rw (mixed, found) (coefficients-expanded s (at table) lanes limits outputs held-answer)
+    filled-expanded = filled ∙ rw (mixed, found) (coefficients-expanded s (at table) lanes outputs held-answer)
 
     -- the constant becomes the mask
     mask : at coefficients 0 ≡ answer_inverted s.class s.family s.n s.k (at table)
@@ -83,10 +82,10 @@ module _ (s : Sizes) (table : List ℕ) (leader : Leader) (lanes blocks : List �
     record-answer products literals counts =
         rw (
           others,
-          found ∙ choices-answer s (at table) lanes limits outputs held-answer,
+          found ∙ choices-answer s (at table) lanes outputs held-answer,
           mixed,
           fixed,
-          counts.0 ∙ leader-products s.class s.family s.n s.k (at table) leader limits.inputs limits.within leads outputs,
-          counts.1 ∙ leader-literals s.class s.family s.n s.k (at table) leader limits.inputs limits.within leads outputs,
+          counts.0 ∙ leader-products s.class s.family s.n s.k (at table) leader s.inputs s.within leads outputs,
+          counts.1 ∙ leader-literals s.class s.family s.n s.k (at table) leader s.inputs s.within leads outputs,
           mask,
         )

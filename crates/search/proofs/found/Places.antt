@@ -16,7 +16,7 @@ use Rattle.expansions.specs.Members.{block, place, Member}
 use Rattle.expansions.specs.Split.{gather, outside}
 use Rattle.expansions.specs.Inner.Answer.{member_coefficient, answer_mixed, answer_fixed, answer_choice, expanded_coefficient, without_constant}
 use Rattle.lanes.specs.Inner.Lanes.{block_lanes}
-use Rattle.lanes.specs.Inner.Sizes.{Limits, MixedSet}
+use Rattle.lanes.specs.Inner.Sizes.{MixedSet}
 use Rattle.lanes.specs.Inner.Terms.{coefficient_at}
 use Rattle.search.specs.Inner.Search.{choice_at}
 use Rattle.lanes.specs.declared.sizes.Sizes.{Sizes}
@@ -29,12 +29,12 @@ use Rattle.lanes.proofs.expand.Room.{few}
 use Rattle.lanes.proofs.expand.Held.{held-coefficient}
 use Rattle.charges.proofs.Held.{held-choice}
 
-module _ (s : Sizes) (f : ℕ → ℕ) (lanes : List ℕ) (limits : Limits s) (outputs : (p : ℕ) → p < 2 ^ s.n → f p < 2 ^ 8)
+module _ (s : Sizes) (f : ℕ → ℕ) (lanes : List ℕ) (outputs : (p : ℕ) → p < 2 ^ s.n → f p < 2 ^ 8)
     (held : lanes ≡ block_lanes s.n s.k (answer_mixed s.class s.family s.n s.k f)
     (gather s.n (outside s.n (answer_mixed s.class s.family s.n s.k f)) (answer_fixed s.class s.family s.n s.k f)) f) where
   member : Member s.class s.n s.k (answer_mixed s.class s.family s.n s.k f) (answer_fixed s.class s.family s.n s.k f)
       (answer_choice s.class s.family s.n s.k f)
-  member = answer-member s.class s.family s.n s.k f limits.within
+  member = answer-member s.class s.family s.n s.k f s.within
 
   mixed-set : MixedSet s (answer_mixed s.class s.family s.n s.k f)
   mixed-set = record { mask = member.pair.mask; size = member.pair.size }
@@ -45,7 +45,7 @@ module _ (s : Sizes) (f : ℕ → ℕ) (lanes : List ℕ) (limits : Limits s) (o
   unfolding choice_at answer_choice
   choice_at-answer j =
       only-ext j (2 ^ (s.n - s.k)) _ _
-      (held-choice s (answer_mixed s.class s.family s.n s.k f) (answer_fixed s.class s.family s.n s.k f) f lanes limits outputs mixed-set held j)
+      (held-choice s (answer_mixed s.class s.family s.n s.k f) (answer_fixed s.class s.family s.n s.k f) f lanes outputs mixed-set held j)
 
   coefficient_at-expanded : (t : ℕ)
       → coefficient_at s.class s.n s.k (answer_mixed s.class s.family s.n s.k f) (at lanes) (answer_choice s.class s.family s.n s.k f) t
@@ -58,7 +58,7 @@ module _ (s : Sizes) (f : ℕ → ℕ) (lanes : List ℕ) (limits : Limits s) (o
       let j : ℕ = block s.n M t in
       let j-lt : j < 2 ^ (s.n - s.k) = block-lt s.n s.k M member.pair.size t in
       ap (only (ltb t (2 ^ s.n)))
-      (held-coefficient s M i f lanes limits outputs mixed-set held j (place s.n M t) (x j) j-lt (place-lt s.n s.k M member.pair.size t) (member.inner j j-lt))
+      (held-coefficient s M i f lanes outputs mixed-set held j (place s.n M t) (x j) j-lt (place-lt s.n s.k M member.pair.size t) (member.inner j j-lt))
 
   -- ---- all places
 
@@ -70,12 +70,12 @@ module _ (s : Sizes) (f : ℕ → ℕ) (lanes : List ℕ) (limits : Limits s) (o
   chosen-answer =
       ap at choices-answer
       ∙ at-whole 256 (answer_choice s.class s.family s.n s.k f)
-      (λ j l. answer-choice-zero s.class s.family s.n s.k f j (omega (arith, pow_mono {i = s.n - s.k} {j = 8} (omega (arith, limits.inputs)))))
+      (λ j l. answer-choice-zero s.class s.family s.n s.k f j (omega (arith, pow_mono {i = s.n - s.k} {j = 8} (omega (arith, s.inputs)))))
 
   pub chosen-lt : (j : ℕ) → at (tabulate 256 (choice_at s.class s.family s.n s.k (at lanes))) j < cond (apart s.class s.k) 16 8
   chosen-lt j =
       rw (ap (λ (x : ℕ → ℕ). x j) chosen-answer)
-      (choices-held s.class s.k _ (few s limits) (answer-choice-lt s.class s.family s.n s.k f limits.within j))
+      (choices-held s.class s.k _ (few s) (answer-choice-lt s.class s.family s.n s.k f s.within j))
 
   pub coefficients-expanded :
       tabulate 256 (coefficient_at s.class s.n s.k (answer_mixed s.class s.family s.n s.k f) (at lanes)

@@ -8,12 +8,12 @@ use Rattle.charges.proofs.cheapest.cheapest_block.Goals as goal
 
 pub sum_charge-requires : goal.sum_charge-requires
 sum_charge-requires g c =
-    let z = c.args.sizes in
-    let small = least-small z.class z.k (at c.args.lanes.now) c.args.j (few z c.requires.limits.0) _ c.least_of-least.ensures in
-    (omega (arith, c.literals_outside.ensures, ones-le 8 c.args.j c.requires.rows.1), omega (arith, small))
+    let z = c.args.search.now.sizes in
+    let small = least-small z.class z.k (at c.args.lanes.now) c.args.j (few z) _ c.least_of-least.ensures in
+    (omega (arith, c.literals_outside.ensures, ones-le 8 c.args.j c.requires.block.0), omega (arith, small))
 
 pub returns : goal.returns
 returns g c =
-    let z = c.args.sizes in
-    sum-cheapest z.class z.k (at c.args.lanes.now) c.args.j (few z c.requires.limits.0) _ c.least_of-least.ensures z.family _ _ c.sum_charge.ensures
+    let z = c.args.search.now.sizes in
+    sum-cheapest z.class z.k (at c.args.lanes.now) c.args.j (few z) _ c.least_of-least.ensures z.family _ _ c.sum_charge.ensures
     c.literals_outside.ensures

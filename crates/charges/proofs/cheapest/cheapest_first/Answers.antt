@@ -10,7 +10,6 @@ use Rattle.expansions.proofs.BlockTable.{choices-held}
 use Rattle.expansions.proofs.Classes.{choices-some}
 use Rattle.expansions.proofs.Minimal.{choice-first}
 use Rattle.expansions.proofs.SmallSums.{small_sum-le}
-use Rattle.lanes.specs.Inner.Sizes.{Limits}
 use Rattle.lanes.specs.Inner.Terms.{coefficient_in}
 use Rattle.lanes.specs.declared.sizes.Sizes.{Sizes}
 use Rattle.lanes.proofs.expand.Room.{few}
@@ -23,9 +22,9 @@ use Rattle.charges.proofs.cheapest.cheapest_first.Goals as goal
 use Rattle.charges.proofs.cheapest.cheapest_first.Goals.{After-least_first-least, After-sum_charge}
 
 -- the terms of block 0 under each of its choices, and without the constant, are a byte
-module _ (z : Sizes) (limits : Limits z) (lanes : ℕ → ℕ) where
+module _ (z : Sizes) (lanes : ℕ → ℕ) where
   terms-lt : (x : ℕ) → x < choices z.class z.k → used_at z.class z.k lanes 0 x / 2 * 2 < 2 ^ 8
-  terms-lt x h = omega (arith, used_at-lt z.class z.k lanes 0 x (choices-held z.class z.k x (few z limits) h))
+  terms-lt x h = omega (arith, used_at-lt z.class z.k lanes 0 x (choices-held z.class z.k x (few z) h))
 
   -- a byte above a byte
   masked-lt : masked_sum z.class z.k lanes (least_choice (choices z.class z.k) (masked_sum z.class z.k lanes)) < 65536
@@ -35,7 +34,7 @@ module _ (z : Sizes) (limits : Limits z) (lanes : ℕ → ℕ) where
       omega (arith, small_sum-le (used_at z.class z.k lanes 0 x / 2 * 2) (terms-lt x h), coefficient_in-lt z.class z.k lanes 0 0 x)
 
 sum_lt : (c : After-least_first-least) → c.least_first-least.result.sum < 65536
-sum_lt c = rw c.least_first-least.ensures.sum (masked-lt c.args.sizes c.requires.limits (at c.args.lanes.now))
+sum_lt c = rw c.least_first-least.ensures.sum (masked-lt c.args.search.now.sizes (at c.args.lanes.now))
 
 pub sum_charge-requires : goal.sum_charge-requires
 sum_charge-requires c = (omega arith, omega (arith, sum_lt (goal.at.sum_charge-requires c).After-least_first-least))
@@ -44,7 +43,7 @@ charge-lt : (c : After-sum_charge) → c.sum_charge.result < 2 ^ 20
 charge-lt c =
     let a = c.args in
     let high : c.least_first-least.result.sum / 256 < 256 = omega (arith, sum_lt (goal.at.After-sum_charge c).After-least_first-least) in
-    omega (arith, c.sum_charge.ensures, sum_charge-most a.sizes.family 0 (c.least_first-least.result.sum / 256) (omega arith) high)
+    omega (arith, c.sum_charge.ensures, sum_charge-most a.search.now.sizes.family 0 (c.least_first-least.result.sum / 256) (omega arith) high)
 
 pub overflow_mul-result : goal.overflow_mul-result
 overflow_mul-result c = omega (arith, charge-lt c)
@@ -54,11 +53,11 @@ overflow_add-result c = record { fits = masked-fits _ _ _ (charge-lt (goal.at.ov
 
 pub returns : goal.returns
 returns c =
-    let z = c.args.sizes in
+    let z = c.args.search.now.sizes in
     let lanes = at c.args.lanes.now in
     let N = choices z.class z.k in
     let some = choices-some z.class z.k in
     cheapest-ext N some _ _ _ (λ x h. first-cost z.class z.k z.family lanes x)
     (cheapest-masked z.family N 0 some (λ x. used_at z.class z.k lanes 0 x / 2 * 2) (λ x. coefficient_in z.class z.k lanes 0 0 x) _
-    (terms-lt z c.requires.limits lanes) (λ x h. coefficient_in-lt z.class z.k lanes 0 0 x) c.least_first-least.ensures _
+    (terms-lt z lanes) (λ x h. coefficient_in-lt z.class z.k lanes 0 0 x) c.least_first-least.ensures _
     (ap (λ (x : ℕ). x * 256 + bit_and c.least_first-least.result.sum 255) c.sum_charge.ensures))

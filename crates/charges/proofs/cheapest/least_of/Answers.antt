@@ -15,34 +15,34 @@ use Rattle.charges.proofs.cheapest.least_of.Goals.{Then-this-ne0}
 use Rattle.charges.proofs.cheapest.least_of.Given.{Over}
 
 -- there are sixteen choices
-both : (g : Over) (c : Then-this-ne0 g) → apart c.args.sizes.class c.args.sizes.k ≡ true
-both g c = c.requires.limits.1 ∙ ap not (ne_eqb g.row.APART 0 c.if-this-ne0.true)
+both : (g : Over) (c : Then-this-ne0 g) → apart c.args.search.now.sizes.class c.args.search.now.sizes.k ≡ true
+both g c = c.requires.told ∙ ap not (ne_eqb g.row.APART 0 c.if-this-ne0.true)
 
-second-half : (g : Over) (c : Then-this-ne0 g) → 1 < cond (apart c.args.sizes.class c.args.sizes.k) 2 1
+second-half : (g : Over) (c : Then-this-ne0 g) → 1 < cond (apart c.args.search.now.sizes.class c.args.search.now.sizes.k) 2 1
 second-half g c = rw (both g c) (lit< tt)
 
 pub lesser-requires : goal.lesser-requires
 lesser-requires g c =
-    let z = c.args.sizes in
-    least_lt 8 (lit< tt) _ _ (c.least_from-last.ensures z.class z.k c.requires.rows.0 (second-half g (goal.at.lesser-requires g c).Then-this-ne0))
+    let z = c.args.search.now.sizes in
+    least_lt 8 (lit< tt) _ _ (c.least_from-last.ensures z.class z.k c.args.search.now.rows_of_class (second-half g (goal.at.lesser-requires g c).Then-this-ne0))
 
 pub returns-then-this-ne0 : goal.returns-then-this-ne0
 returns-then-this-ne0 g c =
-    let z = c.args.sizes in
+    let z = c.args.search.now.sizes in
     let start = (goal.at.returns-then-this-ne0 g c).Then-this-ne0 in
     let sums : ℕ → ℕ = all_sum z.class z.k (at c.args.lanes.now) c.args.j in
-    let first = least_zero 8 (lit< tt) sums _ (c.least_from-first.ensures z.class z.k c.requires.rows.0 (first-half z.class z.k)) in
-    let last = c.least_from-last.ensures z.class z.k c.requires.rows.0 (second-half g start) in
+    let first = least_zero 8 (lit< tt) sums _ (c.least_from-first.ensures z.class z.k c.args.search.now.rows_of_class (first-half z.class z.k)) in
+    let last = c.least_from-last.ensures z.class z.k c.args.search.now.rows_of_class (second-half g start) in
     rw (both g start) (c.lesser.ensures sums first last)
 
 pub least_from-requires : goal.least_from-requires
 least_from-requires g c =
-    let h = few c.args.sizes c.requires.limits.0 in
-    (lit< tt, choices-counted-some c.args.sizes.k h, choices-counted-le c.args.sizes.k h, c.requires.rows.1, c.requires.rows.2)
+    let h = few c.args.search.now.sizes in
+    (lit< tt, choices-counted-some c.args.search.now.sizes.k h, choices-counted-le c.args.search.now.sizes.k h, c.requires.block.0, c.requires.block.1)
 
 pub returns : goal.returns
 returns g c =
-    let z = c.args.sizes in
-    let one-half : apart z.class z.k ≡ false = c.requires.limits.1 ∙ rw c.if-this-ne0.false refl in
+    let z = c.args.search.now.sizes in
+    let one-half : apart z.class z.k ≡ false = c.requires.told ∙ rw c.if-this-ne0.false refl in
     let sums : ℕ → ℕ = all_sum z.class z.k (at c.args.lanes.now) c.args.j in
-    rw one-half (least-counted z.k (few z c.requires.limits.0) sums _ (c.least_from.ensures z.class z.k c.requires.rows.0 (first-half z.class z.k)))
+    rw one-half (least-counted z.k (few z) sums _ (c.least_from.ensures z.class z.k c.args.search.now.rows_of_class (first-half z.class z.k)))

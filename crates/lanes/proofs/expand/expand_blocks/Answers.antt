@@ -11,9 +11,9 @@ pub expand_lanes-requires : goal.expand_lanes-requires
 expand_lanes-requires c =
     let laid = c.lay_out in
     let long = ap length laid.ensures.lanes_after ∙ length-tabulate _ _ in (
-      blocks-le c.args.sizes c.requires.limits,
+      blocks-le c.args.sizes,
       closed-lt c.args.sizes c.args.pair.mixed _ _ _ c.requires.mixed_set c.outside.ensures c.gather-w.ensures.value,
-      ap length (room-kept 8 c.args.sizes (omega arith) c.requires.limits laid.new.lanes _ long) ∙ long,
+      ap length (room-kept 8 c.args.sizes (omega arith) laid.new.lanes _ long) ∙ long,
       c.requires.table_len.1,
     )
 
@@ -21,7 +21,7 @@ pub returns : goal.returns
 returns c =
     let laid = c.lay_out in
     let long = ap length laid.ensures.lanes_after ∙ length-tabulate _ _ in
-    let kept = room-kept 8 c.args.sizes (omega arith) c.requires.limits laid.new.lanes _ long in
+    let kept = room-kept 8 c.args.sizes (omega arith) laid.new.lanes _ long in
     let others = c.outside.ensures in
     let fixed = c.gather-w.ensures.value in
     let b =

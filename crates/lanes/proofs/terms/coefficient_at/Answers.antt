@@ -20,28 +20,28 @@ held-few : (b : Bool) (x : ℕ) → x < cond b 16 8 → x < 16
 held-few true x h = h
 held-few false x h = omega arith
 
-size : (c : Start) → 1 * 2 ^ c.args.sizes.n % 2 ^ 64 ≡ 2 ^ c.args.sizes.n
-size c = one_shifted _ (omega (arith, c.requires.limits.inputs))
+size : (c : Start) → 1 * 2 ^ c.args.search.now.sizes.n % 2 ^ 64 ≡ 2 ^ c.args.search.now.sizes.n
+size c = one_shifted _ (omega (arith, c.args.search.now.sizes.inputs))
 
-place-below : (c : After-split-parts) → let s = c.args.sizes in c.split-parts.result.place < 2 ^ s.k
+place-below : (c : After-split-parts) → let s = c.args.search.now.sizes in c.split-parts.result.place < 2 ^ s.k
 place-below c =
-    let z = c.args.sizes in
+    let z = c.args.search.now.sizes in
     rw (c.split-parts.ensures.1, ← c.requires.mixed_set.0.size) (gather-lt z.n c.args.mixed c.args.t)
 
-block-below : (c : After-split-parts) → let s = c.args.sizes in c.split-parts.result.block < 2 ^ (s.n - s.k)
+block-below : (c : After-split-parts) → let s = c.args.search.now.sizes in c.split-parts.result.block < 2 ^ (s.n - s.k)
 block-below c =
-    let z = c.args.sizes in
+    let z = c.args.search.now.sizes in
     rw (c.split-parts.ensures.0, ← ones-others z.n z.k c.args.mixed c.requires.mixed_set.0.size) (gather-lt z.n (outside z.n c.args.mixed) c.args.t)
 
 block-small : (c : After-split-parts) → c.split-parts.result.block < 256
 block-small c =
-    let z = c.args.sizes in
-    omega (arith, block-below c, pow_mono {i = z.n - z.k} {j = 8} (omega (arith, c.requires.limits.inputs)))
+    let z = c.args.search.now.sizes in
+    omega (arith, block-below c, pow_mono {i = z.n - z.k} {j = 8} (omega (arith, c.args.search.now.sizes.inputs)))
 
 pub returns-then-all-t : goal.returns-then-all-t
 unfolding coefficient_at
 returns-then-all-t c =
-    let h : 2 ^ c.args.sizes.n ≤ c.args.t = omega (arith, size (goal.at.returns-then-all-t c).Start) in
+    let h : 2 ^ c.args.search.now.sizes.n ≤ c.args.t = omega (arith, size (goal.at.returns-then-all-t c).Start) in
     sym (only_above _ _ _ h)
 
 pub bounds-chosen-parts : goal.bounds-chosen-parts
@@ -52,14 +52,14 @@ coefficient_in-requires c =
     let p = c.requires in (
       block-small (goal.at.coefficient_in-requires c).After-split-parts,
       omega (arith, block-below (goal.at.coefficient_in-requires c).After-split-parts, p.mixed_set.1),
-      omega (arith, place-below (goal.at.coefficient_in-requires c).After-split-parts, pow_mono {i = c.args.sizes.k} {j = 3} (few c.args.sizes p.limits)),
-      held-few (apart c.args.sizes.class c.args.sizes.k) _ (p.by_index c.split-parts.result.block),
+      omega (arith, place-below (goal.at.coefficient_in-requires c).After-split-parts, pow_mono {i = c.args.search.now.sizes.k} {j = 3} (few c.args.search.now.sizes)),
+      held-few (apart c.args.search.now.sizes.class c.args.search.now.sizes.k) _ (p.by_index c.split-parts.result.block),
     )
 
 pub returns : goal.returns
 unfolding coefficient_at
 returns c =
-    let h : c.args.t < 2 ^ c.args.sizes.n = omega (arith, c.if-all-t.false, size (goal.at.returns c).Start) in
-    let z = c.args.sizes in
+    let h : c.args.t < 2 ^ c.args.search.now.sizes.n = omega (arith, c.if-all-t.false, size (goal.at.returns c).Start) in
+    let z = c.args.search.now.sizes in
     let f : ℕ → ℕ → ℕ = λ j x. coefficient_in z.class z.k (at c.args.lanes.now) j x (at c.args.chosen.now j) in
-    c.coefficient_in.ensures z.class z.k c.requires.rows (c.requires.by_index c.split-parts.result.block) ∙ ap₂ f c.split-parts.ensures.0 c.split-parts.ensures.1 ∙ sym (only_below _ _ _ h)
+    c.coefficient_in.ensures z.class z.k c.args.search.now.rows_of_class (c.requires.by_index c.split-parts.result.block) ∙ ap₂ f c.split-parts.ensures.0 c.split-parts.ensures.1 ∙ sym (only_below _ _ _ h)

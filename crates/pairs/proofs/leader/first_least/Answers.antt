@@ -8,4 +8,4 @@ use Rattle.pairs.proofs.leader.first_least.Goals as goal
 
 pub loop-mixed-init : goal.loop-mixed-init
 loop-mixed-init c =
-    (one_shifted _ (omega (arith, c.requires.limits.inputs)), omega arith, rw (zero-mul (2 ^ c.args.sizes.n)) (leads-none c.args.sizes.class c.args.sizes.family _ _ _))
+    (one_shifted _ (omega (arith, c.args.search.now.sizes.inputs)), omega arith, rw (zero-mul (2 ^ c.args.search.now.sizes.n)) (leads-none c.args.search.now.sizes.class c.args.search.now.sizes.family _ _ _))

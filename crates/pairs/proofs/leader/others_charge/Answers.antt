@@ -9,11 +9,11 @@ use Rattle.pairs.proofs.leader.others_charge.Goals as goal
 use Rattle.pairs.proofs.leader.others_charge.Goals.{After-cheapest_block-others}
 
 pub loop-j-init : goal.loop-j-init
-loop-j-init g c = blocks-first _ (at c.args.lanes.now) c.requires.limits.0
+loop-j-init g c = blocks-first _ (at c.args.lanes.now)
 
 -- what block j costs
-one : (g : Over) (c : After-cheapest_block-others g) → c.cheapest_block-others.result.charge * 256 ≡ least_from c.args.sizes (at c.args.lanes.now) c.loop-j.j
-one g c = other-least c.args.sizes (at c.args.lanes.now) c.loop-j.j _ c.loop-j.invariant.some c.cheapest_block-others.ensures
+one : (g : Over) (c : After-cheapest_block-others g) → c.cheapest_block-others.result.charge * 256 ≡ least_from c.args.search.now.sizes (at c.args.lanes.now) c.loop-j.j
+one g c = other-least c.args.search.now.sizes (at c.args.lanes.now) c.loop-j.j _ c.loop-j.invariant.some c.cheapest_block-others.ensures
 
 pub overflow_add-others : goal.overflow_add-others
 overflow_add-others g c =

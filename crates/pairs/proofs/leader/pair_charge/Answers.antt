@@ -9,16 +9,16 @@ use Rattle.pairs.proofs.leader.pair_charge.Goals as goal
 use Rattle.pairs.proofs.leader.pair_charge.Goals.{Joined-apart, then-apart, else-apart}
 
 -- either way the sum is the pair's charge
-sum : (c : Joined-apart) → c.cheapest_first-first.result.charge + c.if-apart.others * 256 ≡ pair_from c.args.sizes (at c.args.lanes.now)
+sum : (c : Joined-apart) → c.cheapest_first-first.result.charge + c.if-apart.others * 256 ≡ pair_from c.args.search.now.sizes (at c.args.lanes.now)
 sum c =
     let first = c.cheapest_first-first.ensures.charge in
     elim c.if-apart.branch [ then-apart w ↦ rw (first, w.others-is) w.others_charge-others.ensures | else-apart w ↦ rw (first, w.others-is) w.others_charge-others-else-apart.ensures ]
 
 pub overflow_mul-result : goal.overflow_mul-result
-overflow_mul-result c = omega (arith, sum (goal.at.overflow_mul-result c).Joined-apart, pair_from-lt c.args.sizes (at c.args.lanes.now) c.requires.limits)
+overflow_mul-result c = omega (arith, sum (goal.at.overflow_mul-result c).Joined-apart, pair_from-lt c.args.search.now.sizes (at c.args.lanes.now))
 
 pub overflow_add-result : goal.overflow_add-result
-overflow_add-result c = omega (arith, sum (goal.at.overflow_add-result c).Joined-apart, pair_from-lt c.args.sizes (at c.args.lanes.now) c.requires.limits)
+overflow_add-result c = omega (arith, sum (goal.at.overflow_add-result c).Joined-apart, pair_from-lt c.args.search.now.sizes (at c.args.lanes.now))
 
 pub returns : goal.returns
 returns c = sum (goal.at.returns c).Joined-apart

@@ -5,12 +5,12 @@ use Rattle.lanes.proofs.expand.Room.{room-lent}
 use Rattle.pairs.proofs.leader.Leading.{leads-other}
 use Rattle.pairs.proofs.leader.try_mixed.Goals as goal
 
-pub returns-then-ones_in-sizes : goal.returns-then-ones_in-sizes
-returns-then-ones_in-sizes c =
-    leads-other c.args.sizes.class c.args.sizes.family _ _ _ _ _ (λ e. c.if-ones_in-sizes.true (c.ones_in.ensures ∙ e)) c.requires.mixed_bound.1
+pub returns-then-ones_in-search : goal.returns-then-ones_in-search
+returns-then-ones_in-search c =
+    leads-other c.args.search.now.sizes.class c.args.search.now.sizes.family _ _ _ _ _ (λ e. c.if-ones_in-search.true (c.ones_in.ensures ∙ e)) c.requires.mixed_bound.1
 
 pub try_polarities-requires : goal.try_polarities-requires
 try_polarities-requires c =
     let p = c.requires in
-    let size = sym c.ones_in.ensures ∙ c.if-ones_in-sizes.false in
-    record { rows = c.requires.rows; limits = p.limits; given = p.given; mixed_set = (record { mask = p.mixed_bound.0; size = size }, room-lent 8 c.args.sizes (omega arith) p.limits); leads = p.mixed_bound.1 }
+    let size = sym c.ones_in.ensures ∙ c.if-ones_in-search.false in
+    record { given = p.given; mixed_set = (record { mask = p.mixed_bound.0; size = size }, room-lent 8 c.args.search.now.sizes (omega arith)); leads = p.mixed_bound.1 }

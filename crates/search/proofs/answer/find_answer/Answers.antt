@@ -1,13 +1,16 @@
 -- `find_answer` meets its contract.
 use mathlib.Core.Path.{sym, ◌∙◌}
 use Rattle.search.specs.Inner.Answer.{searched}
-use Rattle.search.proofs.answer.Searchable.{allowed-sizes, allowed-table, searched-found}
+use Rattle.search.proofs.answer.Searchable.{allowed-sized, allowed-table, searched-found}
 use Rattle.search.proofs.answer.find_answer.Goals as goal
 
+pub invariant_of-search_allowed : goal.invariant_of-search_allowed
+invariant_of-search_allowed c =
+    let s = allowed-sized _ _ _ _ _ (sym c.allowed.ensures ∙ c.if-allowed.true) in
+    record { inputs = s.inputs.1; mixed = s.mixed.0; within = s.mixed.1 }
+
 pub search_allowed-requires : goal.search_allowed-requires
-search_allowed-requires c =
-    let e = sym c.allowed.ensures ∙ c.if-allowed.true in
-    record { limits = allowed-sizes _ _ _ _ _ e c.args.family; given = allowed-table _ _ _ _ _ e }
+search_allowed-requires c = allowed-table _ _ _ _ _ (sym c.allowed.ensures ∙ c.if-allowed.true)
 
 pub returns-then-allowed : goal.returns-then-allowed
 unfolding searched

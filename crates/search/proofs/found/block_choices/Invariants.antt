@@ -7,4 +7,4 @@ use Rattle.search.proofs.found.block_choices.Given as goal
 
 abbrev pub invariant-loop-j : goal.invariant-loop-j
 invariant-loop-j l =
-    (length l.choice-items ≡ 256) × ((t : ℕ) → t < l.j → at l.choice-items t ≡ choice_at l.sizes.class l.sizes.family l.sizes.n l.sizes.k (at l.lanes) t)
+    (length l.choice-items ≡ 256) × ((t : ℕ) → t < l.j → at l.choice-items t ≡ choice_at l.search.sizes.class l.search.sizes.family l.search.sizes.n l.search.sizes.k (at l.lanes) t)

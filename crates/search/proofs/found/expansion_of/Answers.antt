@@ -11,27 +11,27 @@ use native.Mathlib.Omega.{arith}
 use Rattle.search.proofs.found.expansion_of.Goals as goal
 use Rattle.search.proofs.found.expansion_of.Goals.{After-expand_blocks, Start}
 
-set : (c : Start) → MixedSet c.args.sizes (c.args.leader.pair / 2 ^ c.args.sizes.n)
+set : (c : Start) → MixedSet c.args.search.now.sizes (c.args.leader.pair / 2 ^ c.args.search.now.sizes.n)
 set c =
-    let l = c.requires.limits in
-    let member = leader-member c.args.sizes.class c.args.sizes.family _ _ _ c.args.leader l.inputs l.within c.requires.leads in
+    let z = c.args.search.now.sizes in
+    let member = leader-member z.class z.family _ _ _ c.args.leader z.inputs z.within c.requires.leads in
     record { mask = member.pair.mask; size = member.pair.size }
 
 abbrev lanes : After-expand_blocks → List ℕ
 lanes c = c.expand_blocks.new.lanes
 
-long : (c : After-expand_blocks) → length (lanes c) ≡ 8 * 2 ^ (c.args.sizes.n - c.args.sizes.k)
-long c = c.expand_blocks.auto.lanes ∙ room-lent 8 _ (omega arith) c.requires.limits
+long : (c : After-expand_blocks) → length (lanes c) ≡ 8 * 2 ^ (c.args.search.now.sizes.n - c.args.search.now.sizes.k)
+long c = c.expand_blocks.auto.lanes ∙ room-lent 8 c.args.search.now.sizes (omega arith)
 
 pub expand_blocks-requires-clause-mixed_set : goal.expand_blocks-requires-clause-mixed_set
 expand_blocks-requires-clause-mixed_set c = set (goal.at.expand_blocks-requires-clause-mixed_set c).Start
 
 -- what is lent again of `lanes` is all that was filled
 abbrev lent : After-expand_blocks → List ℕ
-lent c = take (8 * 2 ^ (c.args.sizes.n - c.args.sizes.k) % 2 ^ 64) (lanes c ++ drop (8 * 2 ^ (c.args.sizes.n - c.args.sizes.k) % 2 ^ 64) (replicate 2048 0))
+lent c = take (8 * 2 ^ (c.args.search.now.sizes.n - c.args.search.now.sizes.k) % 2 ^ 64) (lanes c ++ drop (8 * 2 ^ (c.args.search.now.sizes.n - c.args.search.now.sizes.k) % 2 ^ 64) (replicate 2048 0))
 
 kept : (c : After-expand_blocks) → lent c ≡ lanes c
-kept c = room-kept 8 _ (omega arith) c.requires.limits (lanes c) _ (long c)
+kept c = room-kept 8 c.args.search.now.sizes (omega arith) (lanes c) _ (long c)
 
 pub coefficients-filled-requires-clause-mixed_set : goal.coefficients-filled-requires-clause-mixed_set
 coefficients-filled-requires-clause-mixed_set c =
@@ -42,11 +42,11 @@ pub coefficients-filled-requires-clause-by_index : goal.coefficients-filled-requ
 coefficients-filled-requires-clause-by_index c =
     let p = c.requires in
     let g = goal.at.coefficients-filled-requires-clause-by_index c in
-    blocks-lt _ _ _ _ _ p.limits p.given p.leads (kept g.After-expand_blocks ∙ c.expand_blocks.ensures.lanes_after) c.block_choices-chosen.ensures
+    blocks-lt c.args.search.now.sizes _ _ _ _ p.given p.leads (kept g.After-expand_blocks ∙ c.expand_blocks.ensures.lanes_after) c.block_choices-chosen.ensures
 
 pub returns : goal.returns
 returns c =
     let p = c.requires in
     let g = goal.at.returns c in
-    record-answer _ _ _ _ _ p.limits p.given p.leads (kept g.After-expand_blocks ∙ c.expand_blocks.ensures.lanes_after)
+    record-answer c.args.search.now.sizes _ _ _ _ p.given p.leads (kept g.After-expand_blocks ∙ c.expand_blocks.ensures.lanes_after)
     c.block_choices-chosen.ensures _ c.coefficients-filled.ensures _ _ c.counts_in-counts.ensures
