@@ -4,6 +4,8 @@
 -- statement is that they are equal, at every row (proofs/Designs, `designs-hold`).
 use Rattle.std.specs.Prelude.{List, [], ◌∷◌, ◌++◌, ◌≡◌, ℕ, zero, suc, ◌^◌, set, replicate}
 use Prim.Native.String.{String}
+use Rattle.numbers.specs.declared.refusals.Refusal.{Refusal}
+use Rattle.numbers.specs.declared.refusals.Refusal.TheVariants as refusals
 use Rattle.numbers.specs.Refusals.{number_of}
 use Rattle.numbers.specs.Bytes.{at, tabulate}
 use Rattle.algebra.specs.Coefficients.{coefficient}
@@ -58,6 +60,8 @@ pub data Asked : Type 0 where
   counts_of : List ℕ → Asked
   -- the table of n inputs that a listing gives, read from its own lines
   table_of : (n : ℕ) → List ℕ → Asked
+  -- the number of a refusal
+  numbered : Refusal → Asked
 
 -- the terms below N that have a coefficient, ascending
 unfoldable pub terms_below : ℕ → (ℕ → ℕ) → List ℕ
@@ -116,6 +120,7 @@ computed (listing_of C family n m k e) = listing C family n m k e
 computed (first_line_of s) = first_numbers s
 computed (counts_of s) = listing_products s ∷ listing_literals s ∷ []
 computed (table_of n s) = tabulate (2 ^ n) (listing_value s)
+computed (numbered why) = number_of why ∷ []
 
 -- a row: what is asked, and the numbers that the documents answer with
 pub data Design : Type 0 where
@@ -360,6 +365,21 @@ base_designs =
     ∷ states (printed_of "table\t2\t1\t1\non\t1\t1\non\t1\t1\nend\n") (bytes "refused\t5\t3\n")
     -- the reading call "fills a lent table of 256 bytes, zero from 2^n on, and returns n, m, k"
     ∷ states (meaning_of printed_text) (accepted One 2 2 (Mixed Block 1) (printed_table ++ replicate 252 0))
+    -- "1. A text line breaks its grammar", "2. n is not 1 to 8", "3. m is not 1 to 8", "4. k is above 3 or above n", "5. A point is 2^n or more"
+    ∷ states (numbered refusals.BrokenLine) (1 ∷ [])
+    ∷ states (numbered refusals.InputCount) (2 ∷ [])
+    ∷ states (numbered refusals.OutputCount) (3 ∷ [])
+    ∷ states (numbered refusals.MixedCount) (4 ∷ [])
+    ∷ states (numbered refusals.PointOrder) (5 ∷ [])
+    -- "6. The text stops", "7. A polarity w is 2^n or more", "8. A lent table .. has another length", "9. A byte .. has a bit at m or above set"
+    ∷ states (numbered refusals.TextEnd) (6 ∷ [])
+    ∷ states (numbered refusals.PolarityRange) (7 ∷ [])
+    ∷ states (numbered refusals.BufferLength) (8 ∷ [])
+    ∷ states (numbered refusals.HighBit) (9 ∷ [])
+    -- "10. The output buffer is shorter than the listing."; W-201: "A broken listing line .. is 11", "n, m or k unlike the table's is 12"
+    ∷ states (numbered refusals.OutputRoom) (10 ∷ [])
+    ∷ states (numbered refusals.BrokenListing) (11 ∷ [])
+    ∷ states (numbered refusals.UnlikeListing) (12 ∷ [])
     -- "Empty text is refusal 6, line 1."
     ∷ states (meaning_of "") (refusal 6 1)
     -- "n = 8 with point 255 is accepted, 256 is refusal 5."
