@@ -37,7 +37,6 @@ use Rattle.expansions.specs.Inner.KroneckerAnswer.{kind_charge, answer_kind}
 use Rattle.expansions.specs.Inner.KroneckerAnswer as kronecker
 use Rattle.search.specs.Inner.Answer.{answer_expansion}
 use Rattle.kronecker.specs.Inner.Answer.{answer_kronecker}
-use Rattle.kronecker.specs.Letters.{letter_number, letter_of}
 use Rattle.listings.specs.Parts.{parts, fields, bytes, same}
 use Rattle.numbers.specs.Nonzero.{if_nonzero, over_nonzero}
 use Rattle.listings.specs.Listing.{tabbed, line, descending, digit_count, decimal, cube_byte, cube, output_bytes, mixed_mark, mixed_field, form_word, form_line, inv_line, cube_line, listing_with, listing}
@@ -91,7 +90,7 @@ unfolding same agrees all_agree base_designs computed terms_below or_table zero_
     block_function member_coefficient price block_charge least_choice pair_charge valid_pair least_pair
     answer_pair answer_mixed answer_fixed answer_choice expanded_coefficient answer_inverted without_constant answer_coefficient answer_expansion
     literal_of literal_true literal_count letters_of step_value without kronecker_step kronecker_coefficient term_literals kronecker_literals kronecker_charge
-    kind_charge answer_kind kronecker.answer_coefficient answer_kronecker letter_number letter_of
+    kind_charge answer_kind kronecker.answer_coefficient answer_kronecker
     letter_byte letter_bytes literal_byte kronecker_cube kronecker_line kronecker_listing design_refusal
     parts fields bytes tabbed line descending digit_count decimal cube_byte cube output_bytes
     mixed_mark mixed_field form_word form_line inv_line cube_line if_nonzero over_nonzero listing_with listing

@@ -4,7 +4,6 @@ ghost use Rattle.numbers.specs.Bytes.{at, tabulate};
 ghost use Rattle.numbers.specs.Tests.{only};
 ghost use Rattle.expansions.specs.Kronecker.Letters.{letters_of};
 ghost use Rattle.expansions.specs.Kronecker.Steps.{kronecker_coefficient};
-ghost use Rattle.kronecker.specs.Letters.{letters_in, letter_list};
 ghost use Rattle.kronecker.specs.Found.{Found};
 ghost use Rattle.kronecker.specs.Inner.Answer.{answer_kronecker};
 
@@ -26,13 +25,13 @@ const LITERAL_MASK: usize = (1 << LITERAL_BITS) - 1;
 const ABOVE_EVERY_SCORE: usize = 1 << 40;
 
 // The letters of the kind with the number `kind`: its digits in base 3, that of x1 the lowest.
-fn letters_of(kind: usize) -> [Letter; KroneckerExpansion::INPUTS]
-    ensures { result ≡ letter_list 8 (letters_of kind) }
+fn letters_of(kind: usize) -> [u8; KroneckerExpansion::INPUTS]
+    ensures { result ≡ tabulate 8 (letters_of kind) }
 {
-    let mut letters = [Letter::Shannon; KroneckerExpansion::INPUTS];
+    let mut letters = [0u8; KroneckerExpansion::INPUTS];
     let mut rest = kind;
     for letter in letters.iter_mut() {
-        *letter = Letter::of(rest % 3);
+        *letter = (rest % 3) as u8;
         rest /= 3;
     }
     letters
@@ -41,16 +40,16 @@ fn letters_of(kind: usize) -> [Letter; KroneckerExpansion::INPUTS]
 // The coefficients of the table in the kind of these letters, zero from 2^n on: one step an input.
 fn coefficients(
     n: usize,
-    letters: &[Letter; KroneckerExpansion::INPUTS],
+    letters: &[u8; KroneckerExpansion::INPUTS],
     table: &[u8],
 ) -> [u8; KroneckerExpansion::PLACES]
     requires { (n ≤ 8) × (length table.now ≡ 2 ^ n) }
-    ensures { result ≡ tabulate 256 (λ t. only (ltb t (2 ^ n)) (kronecker_coefficient n (letters_in letters.now) (at table.now) t)) }
+    ensures { result ≡ tabulate 256 (λ t. only (ltb t (2 ^ n)) (kronecker_coefficient n (at letters.now) (at table.now) t)) }
 {
     let mut values = padded(table);
     let size: usize = 1 << n;
     for i in 0..n {
-        values = step(i, letters[i], size, &values);
+        values = step(i, Letter::from(letters[i]), size, &values);
     }
     values
 }

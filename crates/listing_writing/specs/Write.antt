@@ -1,7 +1,6 @@
 -- Writing a listing into a lent buffer: what is answered, and what is left there.
 use Rattle.std.specs.Prelude.{cond, List, ◌++◌, ◌≡◌, ℕ, ◌≤◌, leb, length, drop, Result, Ok, Err}
 use Rattle.numbers.specs.Bytes.{at}
-use Rattle.kronecker.specs.Letters.{letters_in}
 use Rattle.expansions.specs.Costs.{products}
 use Rattle.kronecker.specs.declared.expansion.KroneckerExpansion.{KroneckerExpansion}
 use Rattle.listings.specs.Kronecker.{kronecker_listing}
@@ -10,7 +9,7 @@ use Rattle.numbers.specs.declared.refusals.Refusal.TheVariants.{OutputRoom}
 
 -- the listing of a Kronecker expansion's record, of n inputs and m outputs
 abbrev pub record_listing : (n m : ℕ) → KroneckerExpansion → List ℕ
-record_listing n m e = kronecker_listing n m (letters_in e.letters) (at e.coefficients) e.products e.literals
+record_listing n m e = kronecker_listing n m (at e.letters) (at e.coefficients) e.products e.literals
 
 -- "A buffer of exactly the listing's length is enough; one byte less is refusal 10"; "bytes past it keep what they held"
 pub record WriteListing (listing before : List ℕ) (r : Result ℕ Refusal) (after : List ℕ) : Type 0 where

@@ -1,6 +1,6 @@
 // Writing the listing of a Kronecker expansion: `kron`, a line for each product, `end`.
 ghost use Rattle.std.specs.Prelude.{◌≡◌, ◌+◌, ◌^◌, ◌≤◌, length};
-ghost use Rattle.kronecker.specs.Letters.{letters_in};
+ghost use Rattle.numbers.specs.Bytes.{at};
 ghost use Rattle.listings.specs.Kronecker.{kronecker_line, kronecker_cube};
 ghost use Rattle.writing.specs.Put.{Put};
 ghost use Rattle.listing_writing.specs.Write.{record_listing, WriteListing, KroneckerListable};
@@ -8,7 +8,6 @@ ghost use Rattle.listing_writing.specs.Write.{record_listing, WriteListing, Kron
 use crate::letters::{write_cube, write_letters};
 use crate::terms::{Cubes, TERM, write_end, write_terms};
 use kronecker::expansion::KroneckerExpansion;
-use kronecker::letter::Letter;
 use numbers::refusals::Refusal;
 use writing::line::{digits_of, write_numbers};
 use writing::writer::Writer;
@@ -20,12 +19,12 @@ const FRAME: usize = 14;
 #[derive(Clone, Copy)]
 struct Letters {
     n: usize,
-    letters: [Letter; KroneckerExpansion::INPUTS],
+    letters: [u8; KroneckerExpansion::INPUTS],
     ghost sized: { n ≤ 8 },
 }
 
 impl Cubes for Letters {
-    ghost cube_of = { λ l. kronecker_cube l.n (letters_in l.letters) };
+    ghost cube_of = { λ l. kronecker_cube l.n (at l.letters) };
 
     fn write_cube(&self, start: Writer, out: &mut [u8], t: usize) -> Writer {
         write_cube(start, out, self.n, &self.letters, t)
@@ -38,12 +37,12 @@ fn write_kron(
     out: &mut [u8],
     n: usize,
     m: usize,
-    letters: &[Letter; KroneckerExpansion::INPUTS],
+    letters: &[u8; KroneckerExpansion::INPUTS],
     products: usize,
     literals: usize,
 ) -> Writer
-    requires { (n ≤ 8) × (start.at + length (kronecker_line n m (letters_in letters.now) products literals) ≤ length out.old) }
-    ensures { Put out.old start.at (kronecker_line n m (letters_in letters.now) products literals) out.new result.at }
+    requires { (n ≤ 8) × (start.at + length (kronecker_line n m (at letters.now) products literals) ≤ length out.old) }
+    ensures { Put out.old start.at (kronecker_line n m (at letters.now) products literals) out.new result.at }
 {
     let sizes = write_numbers(start.word(out, b"kron"), out, &[n, m]);
     let last = write_letters(sizes.byte(out, b'\t'), out, n, letters);

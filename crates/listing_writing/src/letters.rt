@@ -1,8 +1,10 @@
-// The letters of a Kronecker expansion and the cubes of its terms, written into a lent buffer. `letters` holds the letter of each input from x1 up.
+// The letters of a Kronecker expansion and the cubes of its terms, written into a lent buffer. `letters` holds the letter of each input from x1 up, by
+// its number: S is 0, P is 1, and every number above 1 is N.
 ghost use Rattle.std.specs.Prelude.{◌≡◌, ◌+◌, ◌%◌, ◌≤◌, length};
+ghost use Rattle.numbers.specs.Bytes.{at};
 ghost use Rattle.expansions.specs.Kronecker.Letters.{literal_of};
 ghost use Rattle.listings.specs.Kronecker.{letter_byte, letter_bytes, literal_byte, kronecker_cube};
-ghost use Rattle.kronecker.specs.Letters.{letter_number, letters_in};
+ghost use Rattle.kronecker.specs.Letters.{letter_number};
 ghost use Rattle.writing.specs.Put.{Put};
 
 use kronecker::expansion::KroneckerExpansion;
@@ -36,30 +38,30 @@ fn literal_byte(letter: Letter, t: usize) -> u8
 }
 
 // The n letters, that of the highest input first.
-#[tactic(auto, unfolding(listings::specs::Kronecker::letter_bytes))]
+#[tactic(auto, using(crate::proofs::letters::Characters::letter_byte_numbered), unfolding(listings::specs::Kronecker::letter_bytes))]
 pub fn write_letters(
     start: Writer,
     out: &mut [u8],
     n: usize,
-    letters: &[Letter; KroneckerExpansion::INPUTS],
+    letters: &[u8; KroneckerExpansion::INPUTS],
 ) -> Writer
     requires { (n ≤ 8) × (start.at + n ≤ length out.old) }
-    ensures { Put out.old start.at (letter_bytes n (letters_in letters.now)) out.new result.at }
+    ensures { Put out.old start.at (letter_bytes n (at letters.now)) out.new result.at }
 {
-    start.descending(out, n, |i| letter_byte(letters[i]))
+    start.descending(out, n, |i| letter_byte(Letter::from(letters[i])))
 }
 
 // The n characters of the cube of the term t, the highest input first.
-#[tactic(auto, unfolding(listings::specs::Kronecker::kronecker_cube))]
+#[tactic(auto, using(kronecker::proofs::Letters::literal_numbered), unfolding(listings::specs::Kronecker::kronecker_cube))]
 pub fn write_cube(
     start: Writer,
     out: &mut [u8],
     n: usize,
-    letters: &[Letter; KroneckerExpansion::INPUTS],
+    letters: &[u8; KroneckerExpansion::INPUTS],
     t: usize,
 ) -> Writer
     requires { (n ≤ 8) × (start.at + n ≤ length out.old) }
-    ensures { Put out.old start.at (kronecker_cube n (letters_in letters.now) t) out.new result.at }
+    ensures { Put out.old start.at (kronecker_cube n (at letters.now) t) out.new result.at }
 {
-    start.descending(out, n, |i| literal_byte(letters[i], t >> i))
+    start.descending(out, n, |i| literal_byte(Letter::from(letters[i]), t >> i))
 }

@@ -5,5 +5,5 @@
 
 pub mod form;
 pub mod kron;
-mod letters;
+pub mod letters;
 mod terms;

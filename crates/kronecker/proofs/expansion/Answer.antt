@@ -21,22 +21,17 @@ use Rattle.expansions.proofs.Kronecker.Answers.{answer-coefficient-zero, answer-
 use Rattle.expansions.proofs.Kronecker.Answers.{answer-products, answer-literals, kronecker-answer-minimal, answer-kind-ext, answer-coefficient-ext}
 use Rattle.kronecker.specs.Expansion.{KroneckerAnswered}
 use Rattle.kronecker.specs.Inner.Answer.{answer_kronecker}
-use Rattle.kronecker.specs.declared.letter.Letter.{Letter}
-use Rattle.kronecker.specs.Letters.{letters_in, letter_list}
-use Rattle.kronecker.proofs.Letters.{letters-numbered, numbers-back}
 
 module _ (n : ℕ) (f : ℕ → ℕ) (hn : n ≤ 8) where
   -- ---- the record's places
 
-  letters-whole : letters_in (letter_list 8 (answer_letters n f)) ≡ answer_letters n f
-  letters-whole =
-      letters-numbered (letter_list 8 (answer_letters n f)) ∙ ap at (numbers-back 8 (answer_letters n f) (answer-letter-lt n f))
-      ∙ at-whole 8 (answer_letters n f) (λ i l. answer-letters-zero n f i (omega arith))
+  letters-whole : at (tabulate 8 (answer_letters n f)) ≡ answer_letters n f
+  letters-whole = at-whole 8 (answer_letters n f) (λ i l. answer-letters-zero n f i (omega arith))
 
   coefficients-whole : at (tabulate 256 (answer_coefficient n f)) ≡ answer_coefficient n f
   coefficients-whole = at-whole 256 (answer_coefficient n f) (λ t l. answer-coefficient-zero n f t (omega (arith, pow_mono hn)))
 
-  pub kronecker-letters : (i : ℕ) → letters_in (answer_kronecker n f).letters i ≡ answer_letters n f i
+  pub kronecker-letters : (i : ℕ) → at (answer_kronecker n f).letters i ≡ answer_letters n f i
   unfolding answer_kronecker
   kronecker-letters i = ap (λ (g : ℕ → ℕ). g i) letters-whole
 
@@ -54,10 +49,10 @@ module _ (n : ℕ) (f : ℕ → ℕ) (hn : n ≤ 8) where
   pub kronecker-coefficients-zero : (t : ℕ) → 2 ^ n ≤ t → at (answer_kronecker n f).coefficients t ≡ 0
   kronecker-coefficients-zero t h = kronecker-coefficients t ∙ answer-coefficient-zero n f t h
 
-  pub kronecker-letters-lt : (i : ℕ) → letters_in (answer_kronecker n f).letters i < 3
+  pub kronecker-letters-lt : (i : ℕ) → at (answer_kronecker n f).letters i < 3
   kronecker-letters-lt i = rw (kronecker-letters i) (answer-letter-lt n f i)
 
-  pub kronecker-letters-zero : (i : ℕ) → n ≤ i → letters_in (answer_kronecker n f).letters i ≡ 0
+  pub kronecker-letters-zero : (i : ℕ) → n ≤ i → at (answer_kronecker n f).letters i ≡ 0
   kronecker-letters-zero i h = kronecker-letters i ∙ answer-letters-zero n f i h
 
   pub answer_kronecker-products-le : (answer_kronecker n f).products ≤ 256
@@ -75,16 +70,16 @@ module _ (n : ℕ) (f : ℕ → ℕ) (hn : n ≤ 8) where
   answer_kronecker-is = rw (letters-whole, coefficients-whole) (kronecker-answer-minimal n f hn)
 
   -- the record that the code makes: the least charge taken apart, the letters of its kind, and the coefficients by these
-  pub answer-record : (charge kind : ℕ) (letters : List Letter) (coefficients : List ℕ) → charge ≡ kind_charge n f (answer_kind n f) → kind ≡ answer_kind n f
-      → letters ≡ letter_list 8 (letters_of kind)
-      → coefficients ≡ tabulate 256 (λ t. only (ltb t (2 ^ n)) (kronecker_coefficient n (letters_in letters) f t))
+  pub answer-record : (charge kind : ℕ) (letters coefficients : List ℕ) → charge ≡ kind_charge n f (answer_kind n f) → kind ≡ answer_kind n f
+      → letters ≡ tabulate 8 (letters_of kind)
+      → coefficients ≡ tabulate 256 (λ t. only (ltb t (2 ^ n)) (kronecker_coefficient n (at letters) f t))
       → record { coefficients = coefficients; letters = letters; products = charge / 4096; literals = charge % 4096 } ≡ answer_kronecker n f
   unfolding answer_kronecker answer_coefficient
   answer-record charge kind letters coefficients ec ek el e =
       let p : charge / 4096 ≡ products n (answer_coefficient n f) = ap (λ (x : ℕ). x / 4096) ec ∙ answer-products n f hn in
       let l : charge % 4096 ≡ kronecker_literals n (answer_letters n f) (answer_coefficient n f) = ap (λ (x : ℕ). x % 4096) ec ∙ answer-literals n f hn in
-      let a : letters ≡ letter_list 8 (answer_letters n f) = el ∙ ap (λ (x : ℕ). letter_list 8 (letters_of x)) ek in
-      let whole : letters_in letters ≡ answer_letters n f = ap letters_in a ∙ letters-whole in
+      let a : letters ≡ tabulate 8 (answer_letters n f) = el ∙ ap (λ (x : ℕ). tabulate 8 (letters_of x)) ek in
+      let whole : at letters ≡ answer_letters n f = ap at a ∙ letters-whole in
       let c : coefficients ≡ tabulate 256 (answer_coefficient n f) =
       e ∙ ap (λ (g : ℕ → ℕ). tabulate 256 (λ t. only (ltb t (2 ^ n)) (kronecker_coefficient n g f t))) whole in
       cc

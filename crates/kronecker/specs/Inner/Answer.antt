@@ -7,14 +7,13 @@ use Rattle.expansions.specs.Kronecker.Costs.{kronecker_literals}
 use Rattle.expansions.specs.Inner.KroneckerAnswer.{answer_letters, answer_coefficient}
 use Rattle.kronecker.specs.declared.expansion.KroneckerExpansion.{KroneckerExpansion}
 use Rattle.kronecker.specs.Expansion.{empty_kronecker}
-use Rattle.kronecker.specs.Letters.{letter_list}
 
--- the answer's record: the 256 coefficient places, "zero from 2^n on", "a letter for each input" and Shannon past the last, and the counts
+-- the answer's record: the 256 coefficient places, "zero from 2^n on", "a letter for each input" and 0 past the last, and the counts
 unfoldable pub answer_kronecker : ℕ → (ℕ → ℕ) → KroneckerExpansion
 answer_kronecker n f =
     record {
       coefficients = tabulate 256 (answer_coefficient n f);
-      letters = letter_list 8 (answer_letters n f);
+      letters = tabulate 8 (answer_letters n f);
       products = products n (answer_coefficient n f);
       literals = kronecker_literals n (answer_letters n f) (answer_coefficient n f);
     }

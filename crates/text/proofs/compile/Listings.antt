@@ -16,7 +16,6 @@ use Rattle.numbers.specs.declared.refusals.Refused.{Refused}
 use Rattle.numbers.specs.Refusals.{number_of, declined}
 use Rattle.search.specs.Inner.Answer.{answer_expansion}
 use Rattle.kronecker.specs.Inner.Answer.{answer_kronecker}
-use Rattle.kronecker.specs.Letters.{letters_in}
 use Rattle.search.proofs.expansion.Answer.{answer_expansion-is, expansion-coefficients-lt, expansion-inverted-lt}
 use Rattle.expansions.specs.declared.families.Family.{Family}
 use Rattle.expansions.specs.declared.families.Family.TheVariants.{One, Two}
@@ -83,8 +82,8 @@ answer-chosen d table a = go d.family d.kind a.sized.mixed a.sized.family where
   go One Kronecker s _ =
       let minimal = answer_kronecker-is d.n (at table) a.sized.inputs.1 in
       let e = answer_kronecker d.n (at table) in
-      kronecker (letters_in e.letters) (at e.coefficients) minimal.answer
-      (ap₂ (λ (p l : ℕ). kronecker_listing d.n d.m (letters_in e.letters) (at e.coefficients) p l) minimal.products_counted minimal.literals_counted)
+      kronecker (at e.letters) (at e.coefficients) minimal.answer
+      (ap₂ (λ (p l : ℕ). kronecker_listing d.n d.m (at e.letters) (at e.coefficients) p l) minimal.products_counted minimal.literals_counted)
   go Two Kronecker s none = absurd none
 
 -- the only one: so the function that finds the answer adds nothing to the documents' words

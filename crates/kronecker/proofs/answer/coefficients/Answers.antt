@@ -1,10 +1,10 @@
 -- `coefficients` meets its contract: after i turns the steps for the inputs below i are done.
 use borrow.Author.Rules.{rules}
-use mathlib.Core.Path.{sym, ap, ◌∙◌}
+use mathlib.Core.Path.{ap, ◌∙◌}
 use lib.ListN.{length}
 use Rattle.numbers.proofs.Bytes.{length-tabulate}
 use Rattle.expansions.proofs.Kronecker.Coefficients.{coefficients-none, coefficients-fit, coefficients-more, coefficients-all}
-use Rattle.kronecker.proofs.Letters.{letter-numbered, letters-numbered}
+use Rattle.kronecker.proofs.Letters.{stepped_numbered}
 use Rattle.kronecker.proofs.answer.coefficients.Goals as goal
 
 pub loop-i-init : goal.loop-i-init
@@ -19,8 +19,8 @@ pub loop-i-preserved : goal.loop-i-preserved
 loop-i-preserved c = (
   search rules,
   coefficients-more _ _ _ _ _ _ _ c.loop-i-test.true c.loop-i.invariant.1
-      (rw (sym (letter-numbered c.args.letters.now c.loop-i.i)) c.step-values.ensures),
+      (stepped_numbered _ (rw c.from.ensures at c.step-values.ensures)),
 )
 
 pub returns : goal.returns
-returns c = rw (letters-numbered c.args.letters.now) (coefficients-all _ _ _ _ _ _ c.loop-i.invariant.0 c.loop-i-test.false c.loop-i.invariant.1)
+returns c = coefficients-all _ _ _ _ _ _ c.loop-i.invariant.0 c.loop-i-test.false c.loop-i.invariant.1

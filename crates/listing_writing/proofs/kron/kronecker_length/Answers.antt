@@ -5,7 +5,6 @@ use Prim.Native.Nat.{ℕ, ◌+◌, ◌*◌, ◌≤◌}
 use native.Mathlib.Omega.{arith}
 use lib.ListN.{length}
 use Rattle.numbers.specs.Bytes.{at}
-use Rattle.kronecker.specs.Letters.{letters_in}
 use Rattle.listings.specs.Inner.Lengths.{digits_of}
 use Rattle.listings.proofs.Lengths.{digits_of-le, products-small}
 use Rattle.listings.proofs.Kronecker.{kronecker-length-stated}
@@ -22,7 +21,7 @@ stated : (s : Start) → let a = s.args in
     14 + a.n + digits_of (figures s) + a.e.products * (a.n + a.m + 7) ≡ length (record_listing a.n a.m a.e)
 stated s =
     let a = s.args in
-    kronecker-length-stated a.n a.m (letters_in a.e.letters) (at a.e.coefficients) a.e.products a.e.literals s.requires.counted
+    kronecker-length-stated a.n a.m (at a.e.letters) (at a.e.coefficients) a.e.products a.e.literals s.requires.counted
 
 -- no more than 256 lines
 few : (s : Start) → let a = s.args in a.e.products * (a.n + a.m + 7) ≤ 5888

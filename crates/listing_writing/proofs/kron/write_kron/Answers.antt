@@ -1,7 +1,7 @@
 -- `write_kron` meets its contract: the word, two numbers, the letters, two numbers and the line's end, one after the other.
 use mathlib.Core.List.{[], ◌∷◌}
 use native.Mathlib.Omega.{arith}
-use Rattle.kronecker.specs.Letters.{letters_in}
+use Rattle.numbers.specs.Bytes.{at}
 use Rattle.listings.specs.Parts.{bytes}
 use Rattle.listings.specs.Inner.Lengths.{digits_of}
 use Rattle.listings.proofs.Lengths.{length-numbers}
@@ -12,14 +12,14 @@ use Rattle.listing_writing.proofs.kron.write_kron.Goals as goal
 pub word-requires : goal.word-requires
 word-requires c =
     let a = c.args in
-    let long = length-kronecker_line a.n a.m (letters_in a.letters.now) a.products a.literals in
+    let long = length-kronecker_line a.n a.m (at a.letters.now) a.products a.literals in
     omega (arith, c.requires.1, long)
 
 pub write_numbers-sizes-requires : goal.write_numbers-sizes-requires
 unfolding digits_of
 write_numbers-sizes-requires c =
     let a = c.args in
-    let long = length-kronecker_line a.n a.m (letters_in a.letters.now) a.products a.literals in
+    let long = length-kronecker_line a.n a.m (at a.letters.now) a.products a.literals in
     let w = c.word.ensures in
     (omega arith, omega (arith, c.requires.1, long, w.to, put-length w))
 
@@ -27,7 +27,7 @@ pub byte-requires : goal.byte-requires
 unfolding digits_of
 byte-requires c =
     let a = c.args in
-    let long = length-kronecker_line a.n a.m (letters_in a.letters.now) a.products a.literals in
+    let long = length-kronecker_line a.n a.m (at a.letters.now) a.products a.literals in
     let w = c.word.ensures in
     let z = c.write_numbers-sizes.ensures in
     omega (arith, c.requires.1, long, w.to, put-length w, z.to, put-length z, length-numbers (a.n ∷ a.m ∷ []))
@@ -36,7 +36,7 @@ pub write_letters-last-requires : goal.write_letters-last-requires
 unfolding digits_of
 write_letters-last-requires c =
     let a = c.args in
-    let long = length-kronecker_line a.n a.m (letters_in a.letters.now) a.products a.literals in
+    let long = length-kronecker_line a.n a.m (at a.letters.now) a.products a.literals in
     let w = c.word.ensures in
     let z = c.write_numbers-sizes.ensures in
     let b = c.byte.ensures in
@@ -46,7 +46,7 @@ pub write_numbers-requires : goal.write_numbers-requires
 unfolding digits_of
 write_numbers-requires c =
     let a = c.args in
-    let long = length-kronecker_line a.n a.m (letters_in a.letters.now) a.products a.literals in
+    let long = length-kronecker_line a.n a.m (at a.letters.now) a.products a.literals in
     let w = c.word.ensures in
     let z = c.write_numbers-sizes.ensures in
     let b = c.byte.ensures in
@@ -65,7 +65,7 @@ write_numbers-requires c =
         put-length b,
         x.to,
         put-length x,
-        length-letters a.n (letters_in a.letters.now),
+        length-letters a.n (at a.letters.now),
       ),
     )
 
@@ -73,7 +73,7 @@ pub byte-requires-2 : goal.byte-requires-2
 unfolding digits_of
 byte-requires-2 c =
     let a = c.args in
-    let long = length-kronecker_line a.n a.m (letters_in a.letters.now) a.products a.literals in
+    let long = length-kronecker_line a.n a.m (at a.letters.now) a.products a.literals in
     let w = c.word.ensures in
     let z = c.write_numbers-sizes.ensures in
     let b = c.byte.ensures in
@@ -92,7 +92,7 @@ byte-requires-2 c =
       put-length b,
       x.to,
       put-length x,
-      length-letters a.n (letters_in a.letters.now),
+      length-letters a.n (at a.letters.now),
       q.to,
       put-length q,
       length-numbers (a.products ∷ a.literals ∷ []),
@@ -104,5 +104,5 @@ returns c =
     let a = c.args in
     let sizes-put = put_then c.word.ensures c.write_numbers-sizes.ensures in
     let letters-put = put_then (put_then sizes-put c.byte.ensures) c.write_letters-last.ensures in
-    rw (kronecker_line-parts a.n a.m (letters_in a.letters.now) a.products a.literals)
+    rw (kronecker_line-parts a.n a.m (at a.letters.now) a.products a.literals)
     (put_then (put_then letters-put c.write_numbers.ensures) c.byte-2.ensures)

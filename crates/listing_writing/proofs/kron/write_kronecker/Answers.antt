@@ -5,7 +5,6 @@ use Prim.Native.Nat.{ℕ, ◌+◌, ◌^◌, ◌≤◌}
 use native.Mathlib.Omega.{arith}
 use lib.ListN.{length, length-append}
 use Rattle.numbers.specs.Bytes.{at}
-use Rattle.kronecker.specs.Letters.{letters_in}
 use Rattle.listings.specs.Parts.{bytes}
 use Rattle.listings.specs.Listing.{line, tabbed, cube_lines}
 use Rattle.listings.specs.Kronecker.{kronecker_cube, kronecker_line, kronecker_listing}
@@ -17,11 +16,11 @@ use Rattle.listing_writing.proofs.kron.write_kronecker.Goals.{Else-out-kronecker
 
 -- the bytes of the first line
 first : Start → List ℕ
-first s = let a = s.args in kronecker_line a.n a.m (letters_in a.e.letters) a.e.products a.e.literals
+first s = let a = s.args in kronecker_line a.n a.m (at a.e.letters) a.e.products a.e.literals
 
 -- the bytes of the lines of the products
 lines : Start → List ℕ
-lines s = let a = s.args in cube_lines a.m (kronecker_cube a.n (letters_in a.e.letters)) (at a.e.coefficients) (2 ^ a.n)
+lines s = let a = s.args in cube_lines a.m (kronecker_cube a.n (at a.e.letters)) (at a.e.coefficients) (2 ^ a.n)
 
 -- the listing is as long as its parts
 parted : (s : Start) → let a = s.args in length (record_listing a.n a.m a.e) ≡ length (first s) + length (lines s) + 4
