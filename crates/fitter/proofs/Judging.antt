@@ -19,6 +19,7 @@ use Rattle.membership.proofs.Shown.{shown-past}
 use Rattle.table_texts.specs.declared.sizes.Sizes.{Sizes}
 use Rattle.listing_texts.specs.declared.form.Form.{Form}
 use Rattle.listing_texts.specs.declared.read.ListingRead.{ListingRead}
+use Rattle.listing_texts.specs.declared.read.RefusedListing.{RefusedListing}
 use Rattle.shown_rows.specs.Rows.{coefficient_in, complemented_in, shown_blocks}
 use Rattle.listing_texts.specs.Read.{ListingReading, shown, refused, listing_reading}
 use Rattle.listing_texts.specs.Record.{shown_expansion, shown_read, handed_up}
@@ -90,7 +91,7 @@ module _ (z : Sizes) (table s : List ℕ) where
       ap (λ (r : ListingRead). Ok (judged_record z table r)) (sym same) ∙ record-shown z table s f v t is
   record-judged (refused why l) read is e = cc
 
-  pub refused-judged : (x : ListingReading) (e : Refused) → handed_up z x ≡ Err e → Err e ≡ judged z table x
+  pub refused-judged : (x : ListingReading) (e : RefusedListing) → handed_up z x ≡ Err e → Err e.refused ≡ judged z table x
   unfolding handed_up judged
   refused-judged (shown f v t) e h = cc
   refused-judged (refused why l) e h = cc

@@ -13,7 +13,6 @@ use lib.Pow.{pow_mono}
 use Rattle.numbers.specs.Bits.{bit}
 use Rattle.numbers.specs.Bytes.{at, tabulate}
 use Rattle.std.specs.Prelude.{Result, Ok}
-use Rattle.numbers.specs.declared.refusals.Refused.{Refused}
 use Rattle.numbers.specs.Refusals.{Sized}
 use Rattle.numbers.specs.Tests.{only}
 use Rattle.numbers.proofs.Bytes.{length-tabulate, at-tabulate, is-table, tabulate-ext}
@@ -34,6 +33,7 @@ use Rattle.search.proofs.expansion.Answer.{answer_expansion-is, expansion-coeffi
 use Rattle.listings.specs.Listing.{listing}
 use Rattle.table_texts.specs.declared.sizes.Sizes.{Sizes}
 use Rattle.listing_texts.specs.declared.read.ListingRead.{ListingRead}
+use Rattle.listing_texts.specs.declared.read.RefusedListing.{RefusedListing}
 use Rattle.shown_rows.specs.Rows.{coefficient_in, complemented_in, shown_blocks}
 use Rattle.listing_texts.specs.Read.{listing_reading, shown}
 use Rattle.listing_texts.specs.Listings.{term_listing}
@@ -175,7 +175,7 @@ module _ (z : Sizes) (e : Expansion) (sized : Sized z.n z.m (most_mixed z.class)
   record-read = (back-read, handed, had-back)
 
 -- what is handed up for the bytes of a listing
-pub yields-record : (z : Sizes) (s : List ℕ) (r : Result ListingRead Refused) → r ≡ handed_up z (listing_reading z s) → YieldsRecord z s r
+pub yields-record : (z : Sizes) (s : List ℕ) (r : Result ListingRead RefusedListing) → r ≡ handed_up z (listing_reading z s) → YieldsRecord z s r
 yields-record z s r handed e sized member written =
     let read = record-read z e sized member in
     (read.0, handed ∙ ap (λ (x : List ℕ). handed_up z (listing_reading z x)) written ∙ read.1, read.2)

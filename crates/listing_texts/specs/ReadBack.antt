@@ -2,7 +2,6 @@
 -- cubes show it." The contract of `read_listing` has it of every record of a member (`YieldsRecord`); of an answer the whole record is had back
 -- (proofs/ReadBack, `answer-read`).
 use Rattle.std.specs.Prelude.{List, ◌≡◌, ℕ, ◌-◌, ◌^◌, ◌≤◌, ◌<◌, length, Result, Ok}
-use Rattle.numbers.specs.declared.refusals.Refused.{Refused}
 use Rattle.std.specs.Int.Bits.{bit_and}
 use Rattle.numbers.specs.Bits.{bit}
 use Rattle.numbers.specs.Bytes.{at}
@@ -16,6 +15,7 @@ use Rattle.search.specs.declared.expansion.Expansion.{Expansion}
 use Rattle.listings.specs.Listing.{listing}
 use Rattle.table_texts.specs.declared.sizes.Sizes.{Sizes}
 use Rattle.listing_texts.specs.declared.read.ListingRead.{ListingRead}
+use Rattle.listing_texts.specs.declared.read.RefusedListing.{RefusedListing}
 
 -- the record of any member of the class, cheap or not: "256 coefficient places, zero from 2^n on", "bits m to 7 zero", its own counts, and a mask of
 -- its m outputs
@@ -66,7 +66,7 @@ pub record HadBack (z : Sizes) (e : Expansion) (r : ListingRead) : Type 0 where
 
 -- "Reading a listing that we wrote yields the record it came from, as far as its cubes show it.": r is what is handed up for the bytes s, beside a table with
 -- the sizes z
-abbrev pub YieldsRecord : Sizes → List ℕ → Result ListingRead Refused → Type 0
+abbrev pub YieldsRecord : Sizes → List ℕ → Result ListingRead RefusedListing → Type 0
 YieldsRecord z s r =
     (e : Expansion) → Sized z.n z.m (most_mixed z.class) z.k → MemberRecord z e → s ≡ member_listing z e
     → (read : ListingRead) × (r ≡ Ok read) × HadBack z e read

@@ -28,6 +28,22 @@ pub struct ListingRead {
     pub complements: [u8; Expansion::PLACES],
 }
 
+// Why a listing was refused, and what stands for its record: the empty one of the table's k, with no complemented inputs.
+#[derive(Clone, Copy)]
+pub struct RefusedListing {
+    pub refused: Refused,
+    pub read: ListingRead,
+}
+
+// What stands for the record is left out where the refusal alone is handed on.
+impl From<RefusedListing> for Refused {
+    ghost from_gives = { λ listing refused. refused ≡ listing.refused };
+
+    fn from(listing: RefusedListing) -> Refused {
+        listing.refused
+    }
+}
+
 // What a listing states that passed: the numbers of the first line, and the mask of the second.
 #[derive(Clone, Copy)]
 struct Passed {
@@ -152,13 +168,21 @@ fn shown_listing(
 
 // Reads a listing beside a table with these sizes. It hands up the record that the lines show, mask and all, a polarity that no cube shows being
 // plain, and the inputs that each cube shows complemented. It refuses a bad line by 11, with the line, and a family, a class, sizes or counts that
-// are not the table's or the lines' by 12, with line 1. The listing of a member's record has that record handed up, as far as its cubes show it.
+// are not the table's or the lines' by 12, with line 1; then the record is the empty one. The listing of a member's record has that record handed up,
+// as far as its cubes show it.
 #[tactic(auto, unfolding(crate::specs::Record::handed_up, crate::specs::Inner::Judging::stands_for))]
-pub fn read_listing(sizes: Sizes, listing: &[u8]) -> Result<ListingRead, Refused>
+pub fn read_listing(sizes: Sizes, listing: &[u8]) -> Result<ListingRead, RefusedListing>
     ensures reading { result ≡ handed_up sizes (listing_reading sizes listing.now) }
     ensures had_back { YieldsRecord sizes listing.now result }
 {
     let mut rows = [0u16; Limits::PLACES];
-    let passed = judge_listing(sizes, listing, &mut rows)?;
+    let judged = judge_listing(sizes, listing, &mut rows);
+    let passed = judged.map_err(|refused| RefusedListing {
+        refused,
+        read: ListingRead {
+            expansion: Expansion::empty(sizes.k),
+            complements: [0; Expansion::PLACES],
+        },
+    })?;
     Ok(shown_listing(sizes, passed.form, passed.inverted, &rows))
 }

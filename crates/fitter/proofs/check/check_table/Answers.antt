@@ -9,7 +9,7 @@ use Rattle.fitter.proofs.check.check_table.Goals as goal
 pub returns-in_err-read_listing : goal.returns-in_err-read_listing
 returns-in_err-read_listing c =
     let a = c.args in
-    let same : c.from_residual.result ≡ Err c.in_err-read_listing.field-0.0 = search rules in
+    let same : c.from_residual.result ≡ Err c.in_err-read_listing.field-0.0.refused = search rules in
     rw same (refused-judged a.sizes a.table.now a.listing.now _ _ (sym c.in_err-read_listing.ensures.reading))
 
 pub returns : goal.returns
