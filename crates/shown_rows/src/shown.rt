@@ -31,7 +31,11 @@ pub fn bytes_of(rows: &[u16; Expansion::PLACES], shift: usize) -> [u8; Expansion
     requires { shift ≤ 8 }
     ensures { result ≡ tabulate 256 (λ t. at rows.now t / 2 ^ shift % 256) }
 {
-    rows.map(|row| ((row >> shift) & 255) as u8)
+    let mut bytes = [0; Expansion::PLACES];
+    for t in 0..Expansion::PLACES {
+        bytes[t] = ((rows[t] >> shift) & 255) as u8;
+    }
+    bytes
 }
 
 // What the place s of a block of two mixed inputs whose places choose apart adds to the choice of the block, where its cube shows this polarity.

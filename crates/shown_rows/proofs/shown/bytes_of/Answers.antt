@@ -1,13 +1,18 @@
--- `bytes_of` meets its contract: each call of `map` gives the byte of its row.
-use borrow.Author.Rules.{rules}
-use mathlib.Core.Path.{◌∙◌}
-use Prim.Native.Nat.{◌/◌, ◌^◌}
-use lib.Bits.{bit_and, and_mask}
-use Rattle.numbers.proofs.Bytes.{tabulate-ext}
-use Rattle.shown_rows.proofs.shown.Mapped.{mapped-table}
+-- `bytes_of` meets its contract: after t turns the first t bytes are filled.
+use native.Mathlib.Omega.{arith}
+use lib.Bits.{and_mask}
+use Rattle.numbers.proofs.Bytes.{filled_none, filled_more, filled-all}
 use Rattle.shown_rows.proofs.shown.bytes_of.Goals as goal
+
+pub loop-t-init : goal.loop-t-init
+loop-t-init c = filled_none _ _
+
+pub loop-t-preserved : goal.loop-t-preserved
+loop-t-preserved c =
+    let l = c.loop-t in
+    filled_more _ _ _ _ _ (omega (arith, l.invariant.long, c.loop-t-test.true)) (and_mask _ 8) l.invariant
 
 pub returns : goal.returns
 returns c =
-    mapped-table _ _ (λ x. bit_and (x / 2 ^ c.args.shift) 255) (λ x y q called. search rules) _ _ 256 c.map.ensures.items
-    ∙ tabulate-ext 256 _ _ (λ t l. and_mask _ 8)
+    let l = c.loop-t in
+    filled-all _ _ _ _ (omega (arith, l.auto.t-end, l.invariant.long, c.loop-t-test.false)) l.invariant
