@@ -100,7 +100,7 @@ pub fn judge_sizes(n: usize, m: usize, most: usize, k: usize) -> Result<(), Refu
 pub fn within_outputs(m: usize, bytes: &[u8]) -> bool
     ensures { result ≡ all_below (2 ^ m) bytes.now }
 {
-    m >= Limits::OUTPUTS || bytes.iter().all(|&byte| byte < 1 << m)
+    m >= Limits::OUTPUTS || bytes.iter().fold(0, |seen, &byte| seen | byte) < 1 << m
 }
 
 // Whether n and m are none that document 01 refuses and the bytes are a table of n inputs and m outputs.
