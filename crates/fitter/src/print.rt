@@ -9,12 +9,13 @@ ghost use Rattle.fitter.specs.AnswerLine.{answer_line};
 
 use crate::check::{Verdict, check};
 use numbers::refusals::Refused;
-use text::print::{judged_length, write_refusal};
-use writing::line::write_line;
+use text::print::judged_length;
+use writing::line::{write_line, write_refused};
 use writing::writer::Writer;
 use writing::written::Written;
 
 // What is printed for a table text and a listing. The bytes past it are zero.
+#[derive(Clone, Copy, Debug, PartialEq, Eq)]
 pub struct PrintedCheck;
 
 impl PrintedCheck {
@@ -31,7 +32,7 @@ fn write_word(word: &[u8], out: &mut [u8]) -> usize
 }
 
 // Writes the line of an answer into the front of `out`, and gives the line's length.
-#[tactic(auto, unfolding(crate::specs::AnswerLine::answer_line, listings::specs::Parts::bytes))]
+#[tactic(auto, unfolding(crate::specs::AnswerLine::answer_line, text::specs::Judged::refused_line, listings::specs::Parts::bytes))]
 fn write_answer(answer: Result<Verdict, Refused>, out: &mut [u8]) -> usize
     requires { 18 ≤ length out.old }
     ensures { Put out.old 0 (answer_line answer) out.new result }
@@ -42,7 +43,7 @@ fn write_answer(answer: Result<Verdict, Refused>, out: &mut [u8]) -> usize
             write_line(Writer { at: 0 }, out, b"differs", &[point]).at
         }
         Ok(Verdict::NotOfClass) => write_word(b"not of the class", out),
-        Err(refused) => write_refusal(refused, out),
+        Err(refused) => write_refused(refused.refusal.number(), refused.line, out),
     }
 }
 

@@ -9,15 +9,21 @@ use std::env::Env;
 use std::rt::Files;
 use text::print::Printed;
 
-// Tells the usage where the arguments ask for it. Else it reads the first bytes of the file that the argument names, or of standard input, writes what `print`
-// gives for them, and tells a refusal. Gives what was read; none where nothing was.
-pub fn answer_file<W: AsSlice<u8> + Drop, R: Env + Files + Input + Print, F: Fn(&[u8]) -> W>(
+// What a program of one file prints for the bytes that it read.
+pub trait Prints {
+    type Bytes: AsSlice<u8> + Drop;
+
+    fn print(&self, text: &[u8]) -> Self::Bytes;
+}
+
+// Tells the usage where the arguments ask for it. Else it reads the first bytes of the file that the argument names, or of standard input, writes what the
+// program prints for them, and tells a refusal. Gives what was read; none where nothing was.
+pub fn answer_file<P: Prints, R: Env + Files + Input + Print>(
     rt: &R,
     errors: &impl Print,
     usage: &[u8],
-    print: F,
+    program: &P,
 ) -> Option<Source>
-    requires callable { (state : F) (text : _) → F.pre state text }
     ensures within { IfSome result (λ source. (source.named ≤ 4096) × (source.length ≤ 8192)) }
 {
     let arguments = argument_count(rt, 1);
@@ -29,7 +35,7 @@ pub fn answer_file<W: AsSlice<u8> + Drop, R: Env + Files + Input + Print, F: Fn(
     let mut input = [0u8; Printed::INPUT_BYTES];
     let source = read_input(rt, errors, arguments, &mut name, &mut input)?;
     let text = &input[..source.length];
-    let printed = print(text);
+    let printed = program.print(text);
     tell_answer(rt, errors, printed.as_slice(), &name[..source.named], text);
     Some(source)
 }

@@ -6,10 +6,13 @@ ghost use Rattle.refusal_words.specs.Sentences.{sentence};
 use refusal_words::refusal::{ToldRefusal, refusal_in};
 use refusal_words::sentence::explain;
 
-// Writes the sentence of a refusal of a text, of this name, and gives its length.
+// Writes the sentence of a refusal of a text, of this name, and gives its length; where nothing was refused, nothing is written.
 pub fn tell_refusal(errors: &impl Print, refusal: ToldRefusal, name: &[u8], text: &[u8]) -> usize
-    ensures { result ≡ length (sentence name.now refusal.number refusal.line text.now) }
+    ensures { result ≡ cond (eqb refusal.number 0) zero (length (sentence name.now refusal.number refusal.line text.now)) }
 {
+    if refusal.number == 0 {
+        return 0;
+    }
     let said = explain(name, refusal.number, refusal.line, text);
     let _ = errors.write_all(said.as_slice());
     said.length

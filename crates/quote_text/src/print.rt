@@ -7,12 +7,13 @@ ghost use Rattle.quote_text.specs.QuotationLine.{quotation_line};
 
 use crate::quote::{Quotation, quote};
 use numbers::refusals::Refused;
-use text::print::{judged_length, write_refusal};
-use writing::line::write_line;
+use text::print::judged_length;
+use writing::line::{write_line, write_refused};
 use writing::writer::Writer;
 use writing::written::Written;
 
 // What is printed for a text. The bytes past it are zero.
+#[derive(Clone, Copy, Debug, PartialEq, Eq)]
 pub struct PrintedQuotation;
 
 impl PrintedQuotation {
@@ -21,7 +22,7 @@ impl PrintedQuotation {
 }
 
 // Writes the line of a quotation into the front of `out`, and gives the line's length.
-#[tactic(auto, unfolding(crate::specs::QuotationLine::quotation_line, listings::specs::Parts::bytes))]
+#[tactic(auto, unfolding(crate::specs::QuotationLine::quotation_line, text::specs::Judged::refused_line, listings::specs::Parts::bytes))]
 fn write_quotation(answer: Result<Quotation, Refused>, out: &mut [u8]) -> usize
     requires { 21 ≤ length out.old }
     ensures { Put out.old 0 (quotation_line answer) out.new result }
@@ -31,7 +32,7 @@ fn write_quotation(answer: Result<Quotation, Refused>, out: &mut [u8]) -> usize
             let numbers = [quotation.products, quotation.literals, quotation.length];
             write_line(Writer { at: 0 }, out, b"quote", &numbers).at
         }
-        Err(refused) => write_refusal(refused, out),
+        Err(refused) => write_refused(refused.refusal.number(), refused.line, out),
     }
 }
 

@@ -71,4 +71,4 @@ told-nothing j word fs s p ps other = rw (first-line word fs s p ps, parts-field
 pub told-other : (word : List ℕ) (fs : List (List ℕ)) (s : List ℕ) → Plain word → AllPlain fs → same word (bytes "refused") ≡ false
     → told_refusal (line word fs ++ s) ≡ None
 unfolding told_refusal
-told-other word fs s p ps other = rw (told-nothing 1 word fs s p ps other)
+told-other word fs s p ps other = rw (told-nothing 1 word fs s p ps other, told-nothing 2 word fs s p ps other)

@@ -8,6 +8,7 @@ use writing::writer::Writer;
 use writing::written::Written;
 
 // What is said of a refusal. The bytes past it are zero.
+#[derive(Clone, Copy, Debug, PartialEq, Eq)]
 pub struct Sentence;
 
 impl Sentence {

@@ -4,8 +4,9 @@
 // (`sentence` in crates/refusal_words/specs/Sentences.antt).
 #![tactic(auto)]
 
-use program_files::answering::answer_file;
-use text::print::print_answer;
+use program_files::answering::{Prints, answer_file};
+use text::print::{Printed, print_answer};
+use writing::written::Written;
 
 // How the program is used.
 const USAGE: &str = "usage: rmform [FILE]
@@ -13,6 +14,18 @@ Compiles the table text in FILE, or on standard input: writes its listing, or th
 A refusal is explained on standard error. docs/GUIDE.md has the grammar of a table text and each refusal.
 ";
 
+// What the program prints for a text: the listing of its answer, or the line `refused`.
+#[derive(Drop)]
+struct Answers;
+
+impl Prints for Answers {
+    type Bytes = Written<{ Printed::LONGEST_LISTING }>;
+
+    fn print(&self, text: &[u8]) -> Self::Bytes {
+        print_answer(text)
+    }
+}
+
 fn main(rt: HostRuntime) {
-    answer_file(&rt, &rt.stderr(), USAGE.as_bytes(), print_answer);
+    answer_file(&rt, &rt.stderr(), USAGE.as_bytes(), &Answers);
 }

@@ -3,8 +3,9 @@
 // refusal is explained on standard error, by the bytes that the contract of `explain` states (`sentence` in crates/refusal_words/specs/Sentences.antt).
 #![tactic(auto)]
 
-use program_files::answering::answer_file;
-use quote_text::print::print_quotation;
+use program_files::answering::{Prints, answer_file};
+use quote_text::print::{PrintedQuotation, print_quotation};
+use writing::written::Written;
 
 // How the program is used.
 const USAGE: &str = "usage: rmquote [FILE]
@@ -12,6 +13,18 @@ Quotes the table text in FILE, or on standard input: writes `quote`, products, l
 or the line `refused`, number, line, and explains a refusal on standard error. docs/GUIDE.md has each number and each refusal.
 ";
 
+// What the program prints for a text: its quotation, or the line `refused`.
+#[derive(Drop)]
+struct Quotations;
+
+impl Prints for Quotations {
+    type Bytes = Written<{ PrintedQuotation::LONGEST_LINE }>;
+
+    fn print(&self, text: &[u8]) -> Self::Bytes {
+        print_quotation(text)
+    }
+}
+
 fn main(rt: HostRuntime) {
-    answer_file(&rt, &rt.stderr(), USAGE.as_bytes(), print_quotation);
+    answer_file(&rt, &rt.stderr(), USAGE.as_bytes(), &Quotations);
 }

@@ -5,7 +5,7 @@ ghost use Rattle.kronecker.specs.Inner.Answer.{answer_kronecker};
 ghost use Rattle.search.specs.Inner.Answer.{answer_expansion};
 ghost use Rattle.table_texts.specs.Accepted.{Accepted};
 ghost use Rattle.table_texts.specs.Design.{mixed_design, kronecker_design};
-ghost use Rattle.table_answers.specs.Answers.{answer_for};
+ghost use Rattle.table_answers.specs.Answers.{answer_for, SizesAccepted};
 
 use expansions::kinds::Kind;
 use kronecker::answer::find_kronecker;
@@ -52,7 +52,8 @@ pub fn kronecker_answer(n: usize, m: usize, table: &[u8]) -> KroneckerExpansion
 #[tactic(auto, unfolding(crate::specs::Answers::answer_for))]
 pub fn answer_of(design: Design, table: &[u8]) -> Answer
     requires { Accepted design table.now }
-    ensures { result ≡ answer_for design table.now }
+    ensures value { result ≡ answer_for design table.now }
+    ensures sizes { SizesAccepted result table.now }
 {
     let Design { n, m, kind, family } = design;
     match kind {

@@ -37,6 +37,7 @@ fn write_answer(design: Design, table: &[u8], output: &mut [u8]) -> Result<usize
 }
 
 // Minimises a table that was read, and writes the listing.
+#[tactic(auto, unfolding(crate::specs::Inner::Compiled::compiled, crate::specs::Inner::Compiled::buffer_after))]
 fn compile_table(design: Design, table: &[u8], output: &mut [u8]) -> Result<usize, Refused>
     requires { Accepted design table.now }
     ensures value { result ≡ compiled (given design table.now) (length output.old) }

@@ -11,6 +11,7 @@ use writing::line::write_refused;
 use writing::written::Written;
 
 // What is printed for a text. The bytes past it are zero.
+#[derive(Clone, Copy, Debug, PartialEq, Eq)]
 pub struct Printed;
 
 impl Printed {
@@ -30,8 +31,8 @@ pub fn judged_length(input: &[u8]) -> usize
 }
 
 // Writes the line `refused`, number, line into the front of `out`, and gives the line's length.
-#[tactic(auto, unfolding(crate::specs::Judged::refused_line))]
-pub fn write_refusal(refused: Refused, out: &mut [u8]) -> usize
+#[tactic(auto, using(crate::proofs::print::Refusals::line_room), unfolding(crate::specs::Judged::refused_line, listings::specs::Parts::bytes))]
+fn write_refusal(refused: Refused, out: &mut [u8]) -> usize
     requires { 18 ≤ length out.old }
     ensures { Put out.old 0 (refused_line refused.refusal refused.line) out.new result }
 {

@@ -72,6 +72,12 @@ module _ (d : Design) (table : List ℕ) (a : Accepted d table) where
       (subst (λ (x : Design). LeastCost x.n x.family x.kind (at table) e.products e.literals) (sym found.0) least)
       (counted ∙ ap length (mixed-written d table a z e h).1)
 
+  -- of any record that is listed, and any two counts, that are the answer's
+  pub mixed-quoted : (z : Sizes) (e x : Expansion) (p l long : ℕ) → answer_for d table ≡ Mixed z e → long ≡ length (listing z.class z.family z.n z.m z.k x)
+      → x ≡ e → p ≡ e.products → l ≡ e.literals → numbers p l long ≡ listing_numbers (answer_listing d table)
+  mixed-quoted z e x p l long h counted same products literals =
+      rw (products, literals) (mixed-numbers z e long h (counted ∙ ap (λ (y : Expansion). length (listing z.class z.family z.n z.m z.k y)) same))
+
   pub kind-numbers : (n m : ℕ) (e : KroneckerExpansion) (long : ℕ) → answer_for d table ≡ Kronecker n m e
       → long ≡ length (record_listing n m e)
       → numbers e.products e.literals long ≡ listing_numbers (answer_listing d table)

@@ -51,6 +51,9 @@ module _ (n m : ℕ) (table : List ℕ) (s : TableSized n m) (t : Table n m tabl
         counted = (answer_kronecker-is n (at table) s.inputs.1).products_counted;
       }
 
+pub written_as : {x y before after : List ℕ} {r : Result ℕ Refusal} → x ≡ y → WriteListing x before r after → WriteListing y before r after
+written_as {x} {y} {before} {after} {r} e w = subst (λ (v : List ℕ). WriteListing v before r after) e w
+
 -- an answer for a design can be written, and its listing is the one of the answer
 module _ (d : Design) (table : List ℕ) (a : Accepted d table) where
   pub mixed-written : (z : Sizes) (e : Expansion) → answer_for d table ≡ Mixed z e
@@ -75,15 +78,30 @@ module _ (d : Design) (table : List ℕ) (a : Accepted d table) where
         ap (λ (x : KroneckerExpansion). record_listing n m x) found.1 ∙ ap (λ (x : Design). answer_listing x table) (sym found.0),
       )
 
+  -- of any record that is the answer's
+
+  pub mixed-listed : (z : Sizes) (e x : Expansion) → answer_for d table ≡ Mixed z e → x ≡ e → Listable z.n z.m x
+  mixed-listed z e x h same = subst (Listable z.n z.m) (sym same) (mixed-written z e h).0
+
+  pub mixed-put : (z : Sizes) (e x : Expansion) (before after : List ℕ) (r : Result ℕ Refusal) → answer_for d table ≡ Mixed z e
+      → WriteListing (listing z.class z.family z.n z.m z.k x) before r after → x ≡ e → WriteListing (answer_listing d table) before r after
+  mixed-put z e x before after r h w same =
+      written_as (ap (λ (y : Expansion). listing z.class z.family z.n z.m z.k y) same ∙ (mixed-written z e h).1) w
+
+  pub kind-listed : (n m : ℕ) (e x : KroneckerExpansion) → answer_for d table ≡ Kronecker n m e → x ≡ e → KroneckerListable n m x
+  kind-listed n m e x h same = subst (KroneckerListable n m) (sym same) (kind-written n m e h).0
+
+  pub kind-put : (n m : ℕ) (e x : KroneckerExpansion) (before after : List ℕ) (r : Result ℕ Refusal) → answer_for d table ≡ Kronecker n m e
+      → WriteListing (record_listing n m x) before r after → x ≡ e → WriteListing (answer_listing d table) before r after
+  kind-put n m e x before after r h w same =
+      written_as (ap (λ (y : KroneckerExpansion). record_listing n m y) same ∙ (kind-written n m e h).1) w
+
 -- ---- from the writer's answer to the call's
 
 -- what a `?` returns of a refusal
 pub refusal-is : {A : Type 0} {e : Refused} (r : Result A Refused) → IsErrAnd r (λ x. x ≡ e) → r ≡ Err e
 refusal-is (Ok x) h = absurd h
 refusal-is (Err x) h = ap Err h
-
-pub written_as : {x y before after : List ℕ} {r : Result ℕ Refusal} → x ≡ y → WriteListing x before r after → WriteListing y before r after
-written_as {x} {y} {before} {after} {r} e w = subst (λ (v : List ℕ). WriteListing v before r after) e w
 
 -- what the call says where the writer says it: the line of its refusal is 0
 abbrev pub said : Result ℕ Refusal → Result ℕ Refused

@@ -42,6 +42,9 @@ refusal-said input why l e =
 
 -- ---- how long it is
 
+-- what a line of numbers needs
+pub ruleset line_room = (digits_of-le)
+
 -- a line of a word and numbers: a tab and at most four digits for each number, and the line end
 pub line-le : (word xs : List ℕ) → length (line word (map decimal xs)) ≤ length word + length xs * 5 + 1
 unfolding line
