@@ -36,7 +36,9 @@ pub fn forward(
 ) -> Result<(), Refused>
     ensures { Forward n m w table.now coefficients.old coefficients.new result }
 {
-    judge(n, m, w, table, coefficients.len())?;
+    if let Err(refusal) = judge(n, m, w, table, coefficients.len()) {
+        return Err(refusal.at(0));
+    }
     coefficients_into(0, n, w, table, coefficients);
     Ok(())
 }

@@ -53,7 +53,7 @@ coefficient_in-requires c =
       block-small (goal.at.coefficient_in-requires c).After-split-parts,
       omega (arith, block-below (goal.at.coefficient_in-requires c).After-split-parts, p.mixed_set.1),
       omega (arith, place-below (goal.at.coefficient_in-requires c).After-split-parts, pow_mono {i = c.args.search.now.sizes.k} {j = 3} (few c.args.search.now.sizes)),
-      held-few (apart c.args.search.now.sizes.class c.args.search.now.sizes.k) _ (p.by_index c.split-parts.result.block),
+      held-few (apart c.args.search.now.sizes.class c.args.search.now.sizes.k) _ (p.by_index _),
     )
 
 pub returns : goal.returns
@@ -62,4 +62,4 @@ returns c =
     let h : c.args.t < 2 ^ c.args.search.now.sizes.n = omega (arith, c.if-all-t.false, size (goal.at.returns c).Start) in
     let z = c.args.search.now.sizes in
     let f : ℕ → ℕ → ℕ = λ j x. coefficient_in z.class z.k (at c.args.lanes.now) j x (at c.args.chosen.now j) in
-    c.coefficient_in.ensures z.class z.k c.args.search.now.rows_of_class (c.requires.by_index c.split-parts.result.block) ∙ ap₂ f c.split-parts.ensures.0 c.split-parts.ensures.1 ∙ sym (only_below _ _ _ h)
+    c.coefficient_in.ensures z.class z.k c.args.search.now.rows_of_class (c.requires.by_index _) ∙ ap₂ f c.split-parts.ensures.0 c.split-parts.ensures.1 ∙ sym (only_below _ _ _ h)

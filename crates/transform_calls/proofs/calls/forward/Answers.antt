@@ -1,11 +1,11 @@
 -- `forward` meets its contract.
-use mathlib.Core.Path.{sym, ◌∙◌}
-use Rattle.numbers.proofs.refusals.Judging.{passed_up}
+use mathlib.Core.Path.{sym, ap, ◌∙◌}
+use Rattle.std.specs.Prelude.{Err}
 use Rattle.transform_calls.proofs.calls.Meaning.{forward-done, forward-refused}
 use Rattle.transform_calls.proofs.calls.forward.Goals as goal
 
-pub returns-in_err-judge : goal.returns-in_err-judge
-returns-in_err-judge c = forward-refused _ _ _ _ _ _ _ (sym c.judge.ensures ∙ c.in_err-judge.was) (passed_up _ _ c.from_residual.ensures.1)
+pub returns-in-Err : goal.returns-in-Err
+returns-in-Err c = forward-refused _ _ _ _ _ c.in-Err.refusal _ (sym c.judge.ensures ∙ c.in-Err.is) (ap Err c.at.ensures)
 
 pub returns : goal.returns
-returns c = forward-done _ _ _ _ _ _ (sym c.judge.ensures ∙ c.in_ok-judge.was) c.coefficients_into.ensures
+returns c = forward-done _ _ _ _ _ _ (sym c.judge.ensures ∙ c.in_default.is) c.coefficients_into.ensures
