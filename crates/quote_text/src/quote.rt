@@ -56,6 +56,8 @@ pub fn quote(text: &[u8]) -> Result<Quotation, Refused>
     ensures { Quote text.now result }
 {
     let mut table = [0u8; Limits::PLACES];
-    let design = read_table(text, &mut table)?;
-    Ok(quote_table(design, &table))
+    match read_table(text, &mut table) {
+        Ok(design) => Ok(quote_table(design, &table)),
+        Err(refused) => Err(refused), // no `?`: the must-fail edits change this value alone
+    }
 }

@@ -29,15 +29,15 @@ refused-quote text table q r e is read stands =
 
 pub quote_table-requires : goal.quote_table-requires
 quote_table-requires c =
-    let read : c.read_table.result ≡ Ok c.in_ok-design.design = search rules in
+    let read : c.read_table.result ≡ Ok c.in-Ok.design = search rules in
     reading-accepted _ _ _ (reads-given _ _ _ _ read (means (goal.at.quote_table-requires c).After-read_table))
 
-pub returns : goal.returns
+pub returns-in-Ok : goal.returns-in-Ok
 unfolding quoted
-returns c =
-    let read : c.read_table.result ≡ Ok c.in_ok-design.design = search rules in
-    quote-meaning _ _ _ (reads-given _ _ _ _ read (means (goal.at.returns c).After-read_table)) (ap Ok c.quote_table.ensures)
+returns-in-Ok c =
+    let read : c.read_table.result ≡ Ok c.in-Ok.design = search rules in
+    quote-meaning _ _ _ (reads-given _ _ _ _ read (means (goal.at.returns-in-Ok c).After-read_table)) (ap Ok c.quote_table.ensures)
 
-pub returns-in_err-design : goal.returns-in_err-design
-returns-in_err-design c =
-    refused-quote _ _ _ _ _ c.from_residual.ensures.1 (search rules) (means (goal.at.returns-in_err-design c).After-read_table)
+pub returns-in-Err : goal.returns-in-Err
+returns-in-Err c =
+    refused-quote _ _ _ _ _ refl (search rules) (means (goal.at.returns-in-Err c).After-read_table)
